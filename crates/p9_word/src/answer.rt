@@ -1,0 +1,99 @@
+use crate::{Datum, Msg, NoMemory};
+use std::alloc::Global;
+
+/// The answer of a call through an ioproc. ioproc(2).
+#[derive(Drop)]
+pub enum IoAnswer {
+    /// The file is open.
+    Opened,
+    /// The file is closed.
+    Shut,
+    /// These bytes were read; none at the end of the file.
+    Bytes(Msg),
+    /// All bytes were written, so many.
+    Count(u32),
+    /// A read failed before any byte, or a write before all bytes.
+    Fault,
+    /// The file doesn't do that now.
+    Refused,
+}
+
+/// The answer of a request. thread(2).
+#[derive(Drop)]
+pub enum Answer {
+    /// What was asked for is done.
+    Done,
+    /// The value was sent.
+    Sent,
+    /// A value was received, which the call at this place of the trail sent.
+    Got { from: u64, msg: Msg },
+    /// The channel is closed.
+    Closed,
+    /// A number: what it counts is said at each request.
+    Number(u64),
+    /// What came of a call through an ioproc.
+    Io(IoAnswer),
+    /// The request names what isn't there, or asks for what can't be; nothing has changed.
+    Bad,
+}
+
+impl Datum for IoAnswer {
+    fn copied(&self, alloc: Global) -> Result<IoAnswer, NoMemory> {
+        match self {
+            IoAnswer::Opened => Ok(IoAnswer::Opened),
+            IoAnswer::Shut => Ok(IoAnswer::Shut),
+            IoAnswer::Bytes(bytes) => Ok(IoAnswer::Bytes(bytes.copied(alloc)?)),
+            IoAnswer::Count(count) => Ok(IoAnswer::Count(*count)),
+            IoAnswer::Fault => Ok(IoAnswer::Fault),
+            IoAnswer::Refused => Ok(IoAnswer::Refused),
+        }
+    }
+
+    fn is_same(&self, other: &IoAnswer) -> bool {
+        match (self, other) {
+            (IoAnswer::Opened, IoAnswer::Opened) => true,
+            (IoAnswer::Shut, IoAnswer::Shut) => true,
+            (IoAnswer::Bytes(a), IoAnswer::Bytes(b)) => a.is_same(b),
+            (IoAnswer::Count(a), IoAnswer::Count(b)) => a == b,
+            (IoAnswer::Fault, IoAnswer::Fault) => true,
+            (IoAnswer::Refused, IoAnswer::Refused) => true,
+            _ => false,
+        }
+    }
+}
+
+impl Datum for Answer {
+    fn copied(&self, alloc: Global) -> Result<Answer, NoMemory> {
+        match self {
+            Answer::Done => Ok(Answer::Done),
+            Answer::Sent => Ok(Answer::Sent),
+            Answer::Got { from, msg } => Ok(Answer::Got {
+                from: *from,
+                msg: msg.copied(alloc)?,
+            }),
+            Answer::Closed => Ok(Answer::Closed),
+            Answer::Number(n) => Ok(Answer::Number(*n)),
+            Answer::Io(answer) => Ok(Answer::Io(answer.copied(alloc)?)),
+            Answer::Bad => Ok(Answer::Bad),
+        }
+    }
+
+    fn is_same(&self, other: &Answer) -> bool {
+        match (self, other) {
+            (Answer::Done, Answer::Done) => true,
+            (Answer::Sent, Answer::Sent) => true,
+            (
+                Answer::Got { from, msg },
+                Answer::Got {
+                    from: other_from,
+                    msg: other_msg,
+                },
+            ) => from == other_from && msg.is_same(other_msg),
+            (Answer::Closed, Answer::Closed) => true,
+            (Answer::Number(a), Answer::Number(b)) => a == b,
+            (Answer::Io(a), Answer::Io(b)) => a.is_same(b),
+            (Answer::Bad, Answer::Bad) => true,
+            _ => false,
+        }
+    }
+}

@@ -1,0 +1,33 @@
+//! The words that all other crates share: messages, lists, requests, answers, events, the trail, and
+//! what a run starts from.
+//!
+//! A thread makes a [`Request`] and gets an [`Answer`]. A request stands in an [`Event`], the machine
+//! gives a [`Reply`], and both together are an [`Entry`] of the [`Trail`].
+#![tactic(auto)]
+
+mod answer;
+mod body;
+mod datum;
+mod io_call;
+mod memory;
+mod msg;
+mod request;
+mod room;
+mod seq;
+mod setup;
+mod trail;
+
+pub use answer::{Answer, IoAnswer};
+pub use body::{Body, Programs};
+pub use datum::Datum;
+pub use io_call::{Effect, IoCall};
+pub use memory::NoMemory;
+pub use msg::Msg;
+pub use request::{ChanReq, IoReq, Request, ThreadReq, Tid};
+pub use room::Room;
+pub use seq::Seq;
+pub use setup::{ChanSetup, Setup, ThreadSetup};
+pub use trail::{Entry, Event, Reply, Seat, Trail};
+
+#[cfg(test)]
+mod tests;
