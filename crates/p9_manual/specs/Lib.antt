@@ -1,2 +1,13 @@
 pub mod Effects
 pub mod Files
+pub mod State
+pub mod Places
+pub mod Threads
+pub mod Chans
+pub mod Ioprocs
+pub mod Stuck
+pub mod Next
+pub mod Step
+pub mod History
+pub mod Programs
+pub mod FilesInHistory

@@ -1,2 +1,9 @@
-//! The manual's machine: definitions and laws, and no other code. `specs/Step.antt` is the page to begin with.
+//! The manual's machine: definitions and laws, and no code that runs.
+//!
+//! `specs/Step.antt` is the page to begin with. The types of a state's parts are declared here as plain data, so
+//! that definitions and code speak of the same things.
 #![tactic(auto)]
+
+mod state;
+
+pub use state::{Channel, Element, Ioproc, Place, Thread, Waiter};

@@ -1,0 +1,53 @@
+-- Which thread a proc runs next. thread(2): a proc runs one thread at a time, until it relinquishes the processor.
+use Rattle.std.specs.Prelude.{ℕ, ◌&&◌, ◌||◌, Bool, true, not, List, Option, Some, None, if◌then◌else◌, nat_le, option_map}
+use Rattle.std.specs.List.{list_any}
+use Rattle.p9_word.specs.declared.trail.Reply.{Reply}
+use Rattle.p9_word.specs.declared.trail.Reply.TheVariants.{Begin, Turn, Idle, Over, Stuck, Stray}
+use Rattle.p9_word.specs.declared.setup.Setup.{Setup}
+use Rattle.p9_manual.specs.declared.state.Place.{Place}
+use Rattle.p9_manual.specs.declared.state.Place.TheVariants.{Running, New, Ready, Waiting, Ended}
+use Rattle.p9_manual.specs.declared.state.Thread.{Thread}
+use Rattle.p9_manual.specs.Places.{lives, lives_in, runs_in, is_of}
+use Rattle.p9_manual.specs.State.{State, Outcome, by_id, pick, placed, same}
+use Rattle.p9_manual.specs.Stuck.{is_stuck}
+
+-- p is one of the setup's places
+abbrev pub is_place : Setup → ℕ → Bool
+is_place setup p = nat_le 1 p && nat_le p setup.places
+
+-- there will be nothing to run in p: the run is at its end, or no thread of p lives; while p isn't open, no thread at all
+abbrev pub is_over : ℕ → State → Bool
+is_over p s = s.over || not (list_any (if nat_le p s.opened then lives_in p else lives) s.threads)
+
+-- a new thread begins, and any other one goes on with its answer
+abbrev pub turn_reply : ℕ → (ℕ × ℕ × Place) → Reply
+turn_reply t (program, arg, New) = Begin t program arg
+turn_reply t (program, arg, Ready a) = Turn t a
+turn_reply t (program, arg, Running) = Stray
+turn_reply t (program, arg, Waiting) = Stray
+turn_reply t (program, arg, Ended) = Stray
+
+-- what a thread is started with, and where it is
+abbrev pub started : Thread → (ℕ × ℕ × Place)
+started thread = (thread.program, thread.arg, thread.place)
+
+-- t, taken out of the line, runs
+abbrev pub turn : ℕ → State → Option (ℕ × ℕ × Place) → Outcome
+turn t s None = same Stray s
+turn t s (Some start) = record { reply = turn_reply t start; state = record s { threads = placed t Running s.threads } }
+
+-- the run is at its end, since it is stuck
+abbrev pub stuck : State → Outcome
+stuck s = record { reply = Stuck; state = record s { over = true } }
+
+-- the first ready thread of the proc runs; where there is none the run is stuck, or there is nothing to do now
+abbrev pub next_of : State → Option (ℕ × List ℕ) → Outcome
+next_of s None = if is_stuck s then stuck s else same Idle s
+next_of s (Some found) = turn found.0 (record s { line = found.1 }) (option_map started (by_id s.threads found.0))
+
+unfoldable pub next_event : Setup → ℕ → State → Outcome
+next_event setup p s =
+    if not (is_place setup p) then same Stray s
+    else if is_over p s then same Over s
+    else if list_any (runs_in p) s.threads then same Stray s
+    else next_of s (pick (λ t. is_of p (by_id s.threads t)) s.line)

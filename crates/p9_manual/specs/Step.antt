@@ -1,0 +1,59 @@
+-- One event: its reply, and the state after it.
+use Rattle.std.specs.Prelude.{ℕ, ◌+◌, Bool, true, false, Option, Some, None, if◌then◌else◌}
+use Rattle.p9_word.specs.declared.trail.Seat.{Seat}
+use Rattle.p9_word.specs.declared.trail.Seat.TheVariants.{Proc, Io as IoSeat}
+use Rattle.p9_word.specs.declared.trail.Event.{Event}
+use Rattle.p9_word.specs.declared.trail.Event.TheVariants.{Call, Next, IoTake, IoDid}
+use Rattle.p9_word.specs.declared.trail.Reply.{Reply}
+use Rattle.p9_word.specs.declared.trail.Reply.TheVariants.{Now, Waits, Ended, Begin, Turn, Idle, Over, Stuck, Stray, Took, Noted}
+use Rattle.p9_word.specs.declared.request.Request.{Request}
+use Rattle.p9_word.specs.declared.request.Request.TheVariants.{Thread as ThreadRequest, Chan as ChanRequest, Io as IoRequest}
+use Rattle.p9_word.specs.declared.setup.Setup.{Setup}
+use Rattle.p9_manual.specs.Places.{runs_there}
+use Rattle.p9_manual.specs.State.{State, Outcome, by_id, same}
+use Rattle.p9_manual.specs.Threads.{thread_call}
+use Rattle.p9_manual.specs.Chans.{chan_call}
+use Rattle.p9_manual.specs.Ioprocs.{io_call, io_event}
+use Rattle.p9_manual.specs.Next.{next_event}
+
+-- a request, by its group
+unfoldable pub served : Setup → ℕ → Request → State → Outcome
+served setup t (ThreadRequest r) s = thread_call setup t r s
+served setup t (ChanRequest r) s = chan_call setup t r s
+served setup t (IoRequest r) s = io_call setup t r s
+
+-- a request is served where its thread runs in the proc that tells it
+unfoldable pub called : Setup → ℕ → ℕ → Request → State → Outcome
+called setup p t r s = if runs_there p (by_id s.threads t) then served setup t r s else same Stray s
+
+-- an event, but for the number of entries: a proc makes calls and asks for turns, an ioproc takes calls and tells effects
+unfoldable pub outcome : Setup → Seat → Event → State → Outcome
+outcome setup (Proc p) (Call t r) s = called setup p t r s
+outcome setup (Proc p) Next s = next_event setup p s
+outcome setup (Proc p) IoTake s = same Stray s
+outcome setup (Proc p) (IoDid effect) s = same Stray s
+outcome setup (IoSeat k) IoTake s = io_event k s None
+outcome setup (IoSeat k) (IoDid effect) s = io_event k s (Some effect)
+outcome setup (IoSeat k) (Call t r) s = same Stray s
+outcome setup (IoSeat k) Next s = same Stray s
+
+-- the replies that make an entry
+abbrev pub makes_entry : Reply → Bool
+makes_entry (Now a) = true
+makes_entry Waits = true
+makes_entry Ended = true
+makes_entry (Begin t program arg) = true
+makes_entry (Turn t a) = true
+makes_entry Stuck = true
+makes_entry (Took call) = true
+makes_entry Noted = true
+makes_entry Idle = false
+makes_entry Over = false
+makes_entry Stray = false
+
+-- the number of entries grows by one where an entry is made
+abbrev pub counted : ℕ → Outcome → Outcome
+counted n o = record o { state = record o.state { entries = if makes_entry o.reply then n + 1 else n } }
+
+unfoldable pub step : Setup → Seat → Event → State → Outcome
+step setup seat event s = counted s.entries (outcome setup seat event s)
