@@ -57,7 +57,9 @@ fn a_list_gives_its_items(rt: HostRuntime) -> Result<(), Fail> {
     let mut room = Room::new(alloc);
     for n in [5u32, 6, 7] {
         lasts(room.reserve(1))?;
-        room.push(n);
+        if room.spare() > 0 {
+            room.push(n);
+        }
     }
     let mut seq: Seq<u32> = room.into_seq();
     assert_eq!(rt; seq.len(), 3);
