@@ -1,5 +1,5 @@
 -- Whole histories: the state at the start, the state after a history, and which histories are legal.
-use Rattle.std.specs.Prelude.{ℕ, true, false, ◌+◌, ◌≡◌, List, [], ◌∷◌, ◌++◌, Option, Some, None, map, replicate, if◌then◌else◌}
+use Rattle.std.specs.Prelude.{ℕ, true, false, ◌+◌, ◌≡◌, List, [], ◌∷◌, ◌++◌, None, map, replicate, if◌then◌else◌}
 use Rattle.std.specs.List.{fold}
 use Rattle.p9_word.specs.declared.trail.Seat.{Seat}
 use Rattle.p9_word.specs.declared.trail.Event.{Event}
@@ -12,7 +12,7 @@ use Rattle.p9_manual.specs.declared.state.Thread.{Thread}
 use Rattle.p9_manual.specs.declared.state.Channel.{Channel}
 use Rattle.p9_manual.specs.declared.state.Place.TheVariants.{New}
 use Rattle.p9_manual.specs.declared.state.Ioproc.TheVariants.{Unmade}
-use Rattle.p9_manual.specs.State.{State, Proc, RwHold, Holds}
+use Rattle.p9_manual.specs.State.{State, Proc, Holds}
 use Rattle.p9_manual.specs.Step.{step, makes_entry}
 
 -- the numbers from n on, one for each item

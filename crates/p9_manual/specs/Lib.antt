@@ -6,8 +6,15 @@ pub mod Threads
 pub mod Chans
 pub mod Ioprocs
 pub mod Stuck
+pub mod Standing
+pub mod Sound
 pub mod Next
 pub mod Step
 pub mod History
 pub mod Programs
 pub mod FilesInHistory
+pub mod Examples
+pub mod RunReplies
+pub mod IoReplies
+pub mod StuckReplies
+pub mod Ending

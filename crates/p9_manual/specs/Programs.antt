@@ -1,6 +1,6 @@
 -- What a history says of each thread, and when it runs the programs: each thread's calls are those that its program
 -- asks for, given its answers so far. This project's own.
-use Rattle.std.specs.Prelude.{ℕ, ◌≡◌, ◌==◌, Bool, true, false, List, [], ◌∷◌, ◌++◌, if◌then◌else◌}
+use Rattle.std.specs.Prelude.{ℕ, ◌≡◌, ◌==◌, List, [], ◌∷◌, ◌++◌, if◌then◌else◌}
 use Rattle.std.specs.List.{fold}
 use Rattle.p9_word.specs.declared.answer.Answer.{Answer}
 use Rattle.p9_word.specs.declared.answer.Answer.TheVariants.{Done}
@@ -8,8 +8,7 @@ use Rattle.p9_word.specs.declared.request.Request.{Request}
 use Rattle.p9_word.specs.declared.trail.Event.{Event}
 use Rattle.p9_word.specs.declared.trail.Event.TheVariants.{Call, Next, IoTake, IoDid}
 use Rattle.p9_word.specs.declared.trail.Reply.{Reply}
-use Rattle.p9_word.specs.declared.trail.Reply.TheVariants.{Now, Waits, Ended, Begin, Turn, Idle, Over, Stuck, Stray, Took, Noted}
-use Rattle.p9_word.specs.declared.trail.Seat.{Seat}
+use Rattle.p9_word.specs.declared.trail.Reply.TheVariants.{Now, Ended, Begin, Turn}
 use Rattle.p9_word.specs.declared.trail.Entry.{Entry}
 
 -- a thread, by its program, its argument and the answers that it was given; the first answer of a thread is Done

@@ -1,6 +1,6 @@
 -- What a machine holds, as plain lists, and the operations that the groups of requests share.
 -- thread(2), lock(2), rendezvous(2), ioproc(2), notify(2).
-use Rattle.std.specs.Prelude.{ℕ, zero, suc, ◌-◌, ◌==◌, Bool, true, false, not, cond, List, [], ◌∷◌, ◌++◌, Option, Some, None, if◌then◌else◌, nat_lt, slice_get}
+use Rattle.std.specs.Prelude.{ℕ, zero, suc, ◌-◌, ◌==◌, Bool, not, cond, List, [], ◌∷◌, ◌++◌, Option, Some, None, if◌then◌else◌, nat_lt, slice_get}
 use Rattle.std.specs.List.{filter}
 use Rattle.p9_word.specs.declared.answer.Answer.{Answer}
 use Rattle.p9_word.specs.declared.answer.Answer.TheVariants.{Bad}

@@ -1,5 +1,5 @@
 -- The requests on threads. thread(2).
-use Rattle.std.specs.Prelude.{ℕ, ◌==◌, not, List, Option, Some, None, map, if◌then◌else◌}
+use Rattle.std.specs.Prelude.{ℕ, ◌==◌, not, Option, Some, None, map, if◌then◌else◌}
 use Rattle.std.specs.List.{filter}
 use Rattle.p9_word.specs.declared.trail.Reply.TheVariants.{Ended as EndedReply}
 use Rattle.p9_word.specs.declared.request.ThreadReq.{ThreadReq}

@@ -4,6 +4,7 @@
 //! that definitions and code speak of the same things.
 #![tactic(auto)]
 
+pub mod laws;
 mod state;
 
 pub use state::{Channel, Element, Ioproc, Place, Thread, Waiter};

@@ -1,0 +1,12 @@
+pub mod Tallies
+pub mod Standing
+pub mod RunMoves
+pub mod RunCalls
+pub mod RunTurns
+pub mod RunHistory
+pub mod RunLaws
+pub mod IoLaws
+pub mod Sound
+pub mod EndLaws
+pub mod StuckLaws
+pub mod Lined

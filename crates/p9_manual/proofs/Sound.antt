@@ -1,0 +1,12 @@
+pub mod Counts
+pub mod Places
+pub mod Running
+pub mod Stand
+pub mod Waits
+pub mod Calls
+pub mod Outcomes
+pub mod Threads
+pub mod Chans
+pub mod Ioprocs
+pub mod Next
+pub mod Histories

@@ -1,0 +1,61 @@
+-- Items by their ids, and the place of a thread, after one was changed.
+use Rattle.std.proofs.Common.{◌≡◌, ◌≢◌, ℕ, zero, suc, ◌-◌, Bool, true, false, cond, ltb, List, [], ◌∷◌, Option, Some, None, refl, ap, sym, arith, rules, tests}
+use Rattle.std.specs.Prelude.{slice_get, option_map}
+use Rattle.p9_manual.specs.declared.state.Place.{Place}
+use Rattle.p9_manual.specs.declared.state.Place.TheVariants.{Ended}
+use Rattle.p9_manual.specs.declared.state.Thread.{Thread}
+use Rattle.p9_manual.specs.State.{by_id, changed, placed, at_place}
+use Rattle.p9_manual.specs.Standing.{place_of, place_in}
+
+pub by_id-suc : {A : Type 0} (xs : List A) (i : ℕ) → by_id xs (suc i) ≡ slice_get xs i
+by_id-suc xs i = let n : suc i - 1 ≡ i = omega arith in let b : ltb 0 (suc i) ≡ true = search (rules, tests) in rw (b, n) refl
+
+changed-suc : {A : Type 0} (f : A → A) (xs : List A) (i : ℕ) → changed f xs (suc i - 1) ≡ changed f xs i
+changed-suc f xs i = let n : suc i - 1 ≡ i = omega arith in rw n refl
+
+slice_get-changed_same : {A : Type 0} (f : A → A) → (xs : List A) (i : ℕ) → slice_get (changed f xs i) i ≡ option_map f (slice_get xs i)
+slice_get-changed_same f [] i = refl
+slice_get-changed_same f (x ∷ xs) zero = refl
+slice_get-changed_same f (x ∷ xs) (suc i) = slice_get-changed_same f xs i
+
+slice_get-changed_other : {A : Type 0} (f : A → A) → (xs : List A) (i j : ℕ) → j ≢ i → slice_get (changed f xs i) j ≡ slice_get xs j
+slice_get-changed_other f [] i j ne = refl
+slice_get-changed_other f (x ∷ xs) zero zero ne = absurd (ne refl)
+slice_get-changed_other f (x ∷ xs) zero (suc j) ne = refl
+slice_get-changed_other f (x ∷ xs) (suc i) zero ne = refl
+slice_get-changed_other f (x ∷ xs) (suc i) (suc j) ne = slice_get-changed_other f xs i j (λ e. ne (ap suc e))
+
+-- the item that was changed
+pub by_id-changed_same : {A : Type 0} (f : A → A) → (xs : List A) (k : ℕ) (x : A) → by_id xs k ≡ Some x → by_id (changed f xs (k - 1)) k ≡ Some (f x)
+by_id-changed_same f xs zero x e = cc
+by_id-changed_same f xs (suc k) x e = rw (changed-suc, by_id-suc, slice_get-changed_same, sym (by_id-suc xs k), e) refl
+
+-- and each other one
+pub by_id-changed_other : {A : Type 0} (f : A → A) → (xs : List A) (k j : ℕ) (x : A) → by_id xs k ≡ Some x → j ≢ k → by_id (changed f xs (k - 1)) j ≡ by_id xs j
+by_id-changed_other f xs zero j x e ne = cc
+by_id-changed_other f xs (suc k) zero x e ne = refl
+by_id-changed_other f xs (suc k) (suc j) x e ne = rw (changed-suc, by_id-suc (changed f xs k) j, by_id-suc xs j, slice_get-changed_other f xs k j (λ same. ne (ap suc same))) refl
+
+-- there is a thread t
+abbrev pub IsMade : ℕ → List Thread → Type 0
+IsMade t threads = (thread : Thread) × (by_id threads t ≡ Some thread)
+
+some_from_place : (o : Option Thread) → place_in o ≢ Ended → (thread : Thread) × (o ≡ Some thread)
+some_from_place None ne = absurd (ne refl)
+some_from_place (Some thread) ne = (thread, refl)
+
+pub made_from_place : (threads : List Thread) (t : ℕ) → place_of threads t ≢ Ended → IsMade t threads
+made_from_place threads t ne = some_from_place (by_id threads t) ne
+
+pub place_of-placed_same : (threads : List Thread) (t : ℕ) (place : Place) → IsMade t threads → place_of (placed t place threads) t ≡ place
+place_of-placed_same threads t place made = ap place_in (by_id-changed_same (at_place place) threads t made.0 made.1)
+
+pub place_of-placed_other : (threads : List Thread) (t u : ℕ) (place : Place) → IsMade t threads → u ≢ t → place_of (placed t place threads) u ≡ place_of threads u
+place_of-placed_other threads t u place made ne = ap place_in (by_id-changed_other (at_place place) threads t u made.0 made.1 ne)
+
+get_step : (b : Bool) (o : Option Thread) (x : Thread) → cond b o None ≡ Some x → o ≡ Some x
+get_step true o x h = h
+get_step false o x h = cc
+
+pub get_from_by_id : (threads : List Thread) (t : ℕ) (thread : Thread) → by_id threads t ≡ Some thread → slice_get threads (t - 1) ≡ Some thread
+get_from_by_id threads t thread e = get_step (ltb 0 t) (slice_get threads (t - 1)) thread e

@@ -1,0 +1,7 @@
+//! What holds of every history. Each law is the contract of a function that does nothing, so a caller has it for a call.
+
+pub mod ending;
+pub mod examples;
+pub mod running;
+pub mod soundness;
+pub mod stuck;
