@@ -1,0 +1,15 @@
+use Rattle.std.proofs.Common.{◌-◌, ◌≡◌, ◌+◌, ◌≤◌, length}
+use Rattle.std.specs.Io.KnownBytes.{Consumes}
+use Rattle.p9_outside.proofs.reading.fill.Given as goal
+
+abbrev pub invariant-loop-len : goal.invariant-loop-len
+invariant-loop-len g l = record {
+  is_len : length l.room.items ≡ l.len;
+  most : l.len ≤ l.n;
+  spare : l.n ≤ l.len + l.room.spare;
+  bytes : Consumes (g.S.Source.left l.initial.source) (g.S.Source.left l.source) l.room.items;
+  later : g.S.Source.faults l.initial.source ≤ g.S.Source.faults l.source;
+}
+
+abbrev pub decreases-loop-len : goal.decreases-loop-len
+decreases-loop-len g l = l.n - l.len

@@ -1,0 +1,10 @@
+pub mod Adapters
+pub mod Causes
+pub mod Contents
+pub mod FileServices
+pub mod Memory
+pub mod MemoryFiles
+pub mod Plans
+pub mod Reached
+pub mod Reading
+pub mod Writing

@@ -1,0 +1,26 @@
+use crate::{Device, ReadDevice, Sink, Source, WriteDevice};
+use p9_word::{Effect, IoCall, Room};
+
+/// A file of either direction.
+#[derive(Drop)]
+pub enum FileDevice<S, K> {
+    /// A file that is read.
+    In(ReadDevice<S>),
+    /// A file that is written.
+    Out(WriteDevice<K>),
+}
+
+impl<S: Source, K: Sink> Device for FileDevice<S, K> {
+    ghost use Rattle.p9_outside.specs.FileServices.{FileServes, file_fits};
+
+    ghost serves = { λ old call effect new. FileServes S.left S.faults K.held K.faults old call effect new };
+
+    ghost fits = { λ old call effect new done. file_fits S.left S.faults K.held K.faults old call effect new done };
+
+    fn serve(&mut self, call: &IoCall, room: Room<u8>) -> Effect {
+        match self {
+            FileDevice::In(device) => device.serve(call, room),
+            FileDevice::Out(device) => device.serve(call, room),
+        }
+    }
+}

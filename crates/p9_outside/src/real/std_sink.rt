@@ -1,0 +1,76 @@
+ghost use Rattle.std.specs.Prelude.{◌≡◌, ◌<◌, IfOk};
+ghost use Rattle.std.specs.Io.{WritesAtMost};
+ghost use Rattle.std.specs.Io.KnownBytes.{WriteAppends};
+
+use crate::real::TRIES;
+use crate::{Failed, Sink};
+use std::io::{ErrorKind, Write};
+
+/// A sink over any writer. It tells the bytes that its writer tells; a file, a pipe and a terminal tell
+/// nothing. Nothing is kept back: give it a writer that has no buffer.
+#[derive(Drop)]
+pub struct StdSink<W> {
+    inner: W,
+    faults: u64,
+}
+
+impl<W: Write> StdSink<W> {
+    ghost use Rattle.p9_outside.specs.Adapters.{writer_of, writer_faults};
+
+    /// A sink over this writer, with no fault so far.
+    pub fn new(inner: W) -> StdSink<W>
+        ensures inner { writer_of result ≡ inner }
+        ensures faults { writer_faults result ≡ 0 }
+    {
+        StdSink { inner, faults: 0 }
+    }
+
+    /// The writer.
+    pub fn get_ref(&self) -> &W
+        ensures { result.now ≡ writer_of self.now }
+    {
+        &self.inner
+    }
+
+    /// The writer, with what was written.
+    pub fn into_inner(self) -> W
+        ensures { result ≡ writer_of self }
+    {
+        let StdSink { inner, faults: _ } = self;
+        inner
+    }
+}
+
+/// Writes, and tries again where the write was interrupted. A write that takes nothing has failed.
+fn write_on<W: Write>(inner: &mut W, bytes: &[u8]) -> Result<usize, Failed>
+    ensures bound { WritesAtMost result bytes.now }
+    ensures some { IfOk result (λ n. 0 < n) }
+    ensures bytes { WriteAppends (W.contents inner.old) (W.contents inner.new) result bytes.now }
+{
+    for _ in 0..TRIES {
+        match inner.write(bytes) {
+            Ok(count) if count > 0 => return Ok(count),
+            Err(error) if error.kind() == ErrorKind::Interrupted => {}
+            _ => return Err(Failed),
+        }
+    }
+    Err(Failed)
+}
+
+impl<W: Write> Sink for StdSink<W> {
+    ghost use Rattle.p9_outside.specs.Adapters.{writer_of, writer_faults};
+
+    ghost held = { λ s. W.contents (writer_of s) };
+
+    ghost faults = { λ s. writer_faults s };
+
+    /// Each failed write raises the count by 1, and so does one that takes nothing. A write that was
+    /// interrupted is tried again.
+    fn write(&mut self, bytes: &[u8]) -> Result<usize, Failed> {
+        let outcome = write_on(&mut self.inner, bytes);
+        if outcome.is_err() {
+            self.faults = self.faults.saturating_add(1);
+        }
+        outcome
+    }
+}

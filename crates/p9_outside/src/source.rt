@@ -1,0 +1,30 @@
+ghost use Rattle.std.specs.Prelude.{◌<◌, List, ℕ, length, Option};
+ghost use Rattle.std.specs.Io.{ReadsAtMost};
+ghost use Rattle.std.specs.Io.KnownBytes.{ReadConsumes};
+ghost use Rattle.p9_outside.specs.Causes.{HasCause};
+
+/// A read or a write has failed.
+#[derive(Clone, Copy, Debug, PartialEq, Eq)]
+pub struct Failed;
+
+/// Bytes to read, from the first to the last.
+///
+/// A source may tell which bytes it has left, as those in memory do, or tell nothing, as a file of the
+/// system. It counts its faults, and the count never falls.
+pub trait Source {
+    /// The bytes that are not read yet, where they are told.
+    ghost left: { Self → Option (List ℕ) };
+
+    /// How often a read has failed. At the greatest u64 it stands.
+    ghost faults: { Self → ℕ };
+
+    /// Moves the next bytes to the front of `buf`, and answers how many: at most its length. 0 is the end,
+    /// and where the bytes are told it comes exactly at the end.
+    ///
+    /// `Failed` comes only where the count of faults rose. No byte is lost then.
+    fn read(&mut self, buf: &mut [u8]) -> Result<usize, Failed>
+        requires { 0 < length buf.old }
+        ensures bound { ReadsAtMost result buf.new }
+        ensures bytes { ReadConsumes (left self.old) (left self.new) result buf.new }
+        ensures cause { HasCause (faults self.old) (faults self.new) result };
+}
