@@ -1,5 +1,5 @@
 -- What a list of services of a file shows.
-use Rattle.std.proofs.Common.{◌∙◌, ap, inr, ◌≡◌, ℕ, ◌≤◌, Bool, true, false, List, [], ◌∷◌, ◌++◌, refl, sym, subst, arith, append_assoc}
+use Rattle.std.proofs.Common.{◌∙◌, ap, inr, ◌≡◌, ℕ, ◌≤◌, Bool, true, false, List, [], ◌∷◌, ◌++◌, refl, sym, subst, arith}
 use Rattle.std.proofs.Math.Seq.{drop-append_seam}
 use Rattle.std.specs.Prelude.{Option, Some, None, ◌||◌, ◌+◌, if◌then◌else◌}
 use Rattle.p9_outside.specs.declared.file_device.FileDevice.{FileDevice}
@@ -12,7 +12,7 @@ use Rattle.p9_word.specs.declared.io_call.Effect.TheVariants.{Opened, Shut, Got,
 use Rattle.p9_outside.specs.declared.reading.ReadDevice.{ReadDevice}
 use Rattle.p9_outside.specs.declared.writing.WriteDevice.{WriteDevice}
 use Rattle.p9_outside.specs.Causes.{Rose, RoseBy}
-use Rattle.p9_manual.specs.Effects.{got, put, has_failed}
+use Rattle.p9_manual.specs.Effects.{got, has_failed}
 use Rattle.p9_manual.specs.Files.{At, TreatsAsFile, after, given, joined, with_piece, written}
 use Rattle.p9_outside.specs.Reading.{ReadServes, reader_at, IsFull, FullReads, rest_after, has_got_failed}
 use Rattle.p9_outside.specs.Writing.{WriteServes, writer_at}

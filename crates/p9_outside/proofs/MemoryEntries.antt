@@ -1,6 +1,6 @@
 -- The entries of files in memory.
-use Rattle.std.proofs.Common.{◌≡◌, ◌≢◌, ℕ, List, [], ◌∷◌, Bool, true, false, refl, sym, ◌∙◌, ap, arith}
-use Rattle.std.specs.Prelude.{Option, Some, None, cond, bytes_eq}
+use Rattle.std.proofs.Common.{◌≡◌, ◌≢◌, ℕ, List, [], ◌∷◌, Bool, true, false, refl, ◌∙◌, arith}
+use Rattle.std.specs.Prelude.{Some, cond, bytes_eq}
 use Rattle.std.proofs.lemmas.Slice.Eq.{bytes_eq-Decides}
 use Rattle.p9_outside.specs.declared.memory.files.Held.{Held}
 use Rattle.p9_outside.specs.MemoryFiles.{found, without, entry}

@@ -1,5 +1,5 @@
 -- Files in memory: their contents, the failures planned, the room of a sink, and the calls that failed.
-use Rattle.std.specs.Prelude.{ℕ, ◌≡◌, List, [], ◌∷◌, Bool, true, false, Option, Some, None, cond, bytes_eq}
+use Rattle.std.specs.Prelude.{ℕ, ◌≡◌, List, [], ◌∷◌, true, false, Option, Some, None, cond, bytes_eq}
 use Rattle.p9_outside.specs.declared.memory.files.Held.{Held}
 use Rattle.p9_outside.specs.declared.memory.files.MemFiles.{MemFiles}
 use Rattle.p9_outside.specs.declared.memory.plans.Plan.{Plan}

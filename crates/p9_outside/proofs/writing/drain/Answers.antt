@@ -1,5 +1,4 @@
-use Rattle.std.proofs.Common.{rules, arith, ◌≡◌, ◌+◌, ◌++◌, ℕ, List, take, drop, sym, subst}
-use Rattle.std.specs.Io.KnownBytes.{Appends}
+use Rattle.std.proofs.Common.{rules}
 use Rattle.p9_outside.proofs.Streams.{appends_more, take_next}
 use Rattle.p9_outside.proofs.writing.drain.Goals as goal
 

@@ -1,4 +1,4 @@
-use Rattle.std.proofs.Common.{◌≡◌, ◌++◌, ◌+◌, ◌≤◌, take, drop, length}
+use Rattle.std.proofs.Common.{◌≡◌, ◌++◌, ◌+◌, ◌≤◌, drop, length}
 use Rattle.p9_outside.specs.Plans.{numbers}
 use Rattle.p9_outside.proofs.memory.plans.planned_numbers.Given as goal
 

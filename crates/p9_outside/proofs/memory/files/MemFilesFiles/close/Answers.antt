@@ -1,4 +1,4 @@
-use Rattle.std.proofs.Common.{◌≡◌, ◌∷◌, List, sym, subst}
+use Rattle.std.proofs.Common.{sym}
 use Rattle.p9_outside.proofs.MemoryEntries.{puts}
 use Rattle.p9_outside.proofs.memory.files.MemFilesFiles.close.Goals as goal
 
