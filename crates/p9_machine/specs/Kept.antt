@@ -1,0 +1,43 @@
+-- What the fields of a machine keep.
+use Rattle.std.specs.Prelude.{◌≡◌, ◌≤◌, length, Option, Some, None}
+use Rattle.p9_word.specs.Filled.{Filled}
+use Rattle.p9_word.specs.declared.trail.Entry.{Entry}
+use Rattle.p9_word.specs.declared.trail.Seat.{Seat}
+use Rattle.p9_word.specs.declared.trail.Event.{Event}
+use Rattle.p9_manual.specs.History.{state_after, IsLegal}
+use Rattle.p9_machine.specs.declared.board.Board.{Board}
+use Rattle.p9_machine.specs.declared.reserve.Reserved.{Reserved}
+use Rattle.p9_machine.specs.declared.machine.Machine.TheInside.{Inside}
+use Rattle.p9_machine.specs.Board.{state_of, calls_of}
+use Rattle.p9_machine.specs.Desks.{rooms_of}
+use Rattle.p9_machine.specs.Ready.{HasMemory, HasEntries}
+use Rattle.p9_machine.specs.Shown.{Shown}
+
+abbrev pub reserved_of : Option Reserved → Option (Seat × Event)
+reserved_of None = None
+reserved_of (Some r) = Some (r.seat, r.event)
+
+-- what callers see
+abbrev pub shown : Inside → Shown
+shown m =
+    record {
+      setup = m.board.setup;
+      entries = m.trail.entries.items;
+      reserved = reserved_of m.reserved;
+      rooms = rooms_of m.board.desks.items;
+    }
+
+-- there is memory for what was reserved, if anything was
+abbrev pub HasMemoryIfAny : Board → Filled Entry → Option Reserved → Type 0
+HasMemoryIfAny board entries None = Unit {0}
+HasMemoryIfAny board entries (Some r) = HasMemory board r × HasEntries board entries
+
+-- the board is where the history leads, and there is memory for what comes
+pub record IsKept (m : Inside) : Type 0 where
+  pub board : state_of m.board ≡ state_after m.board.setup m.trail.entries.items
+  pub legal : IsLegal m.board.setup m.trail.entries.items
+  pub counted : m.board.entries ≡ length m.trail.entries.items
+  pub procs : m.trail.procs ≡ m.board.setup.procs
+  pub start : m.trail.start ≡ m.board.setup.start
+  pub spare : calls_of m.board ≤ m.trail.entries.spare
+  pub memory : HasMemoryIfAny m.board m.trail.entries m.reserved

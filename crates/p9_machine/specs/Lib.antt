@@ -1,0 +1,9 @@
+pub mod Board
+pub mod Calls
+pub mod Copies
+pub mod Desks
+pub mod Kept
+pub mod Plain
+pub mod Ready
+pub mod Shown
+pub mod Turns

@@ -1,0 +1,187 @@
+ghost use Rattle.std.specs.Prelude.{◌≡◌, ◌+◌, ◌≤◌, ◌||◌, not, true, vec_len, vec_capacity};
+ghost use Rattle.std.specs.List.{list_any};
+ghost use Rattle.p9_word.specs.declared.trail.Seat.TheVariants.{Io as IoSeat};
+ghost use Rattle.p9_manual.specs.Effects.{message_length};
+ghost use Rattle.p9_manual.specs.State.{by_id};
+ghost use Rattle.p9_manual.specs.Places.{lives};
+ghost use Rattle.p9_manual.specs.Ioprocs.{io_call, make, post_call, close_ioproc, take_call, did_call, fits};
+ghost use Rattle.p9_machine.specs.Board.{state_of, calls_of, with_answer, HasRoom, Gives, Follows};
+ghost use Rattle.p9_machine.specs.Copies.{IsOfCall, IsForIo, IsOfPosted};
+ghost use Rattle.p9_machine.specs.Desks.{ioprocs_of, rooms_of};
+ghost use Rattle.p9_machine.specs.Ready.{HasBuffersFor};
+ghost use Rattle.p9_word.specs.declared.trail.Event.TheVariants.{IoTake};
+ghost use Rattle.p9_manual.specs.Step.{makes_entry};
+
+use crate::board::Board;
+use crate::copies::copy_call;
+use crate::desks::{begin, find_ioproc, finish, set_ioproc};
+use crate::lists::drop_waits_of;
+use crate::next::some_lives;
+use crate::spares::Spares;
+use p9_manual::Ioproc;
+use p9_word::{Answer, Effect, IoAnswer, IoCall, IoReq, Msg, Reply, Request, Tid};
+use std::alloc::Global;
+
+/// An ioproc is made once.
+fn make(board: &mut Board, k: u32) -> Reply
+    ensures { Gives board.old (make k (state_of board.old) (by_id (ioprocs_of board.old.desks.items) k)) result board.new }
+{
+    match find_ioproc(&board.desks, k) {
+        Some(Ioproc::Unmade) => {
+            set_ioproc(&mut board.desks, k, Ioproc::Idle);
+            Reply::Now(Answer::Number(u64::from(k)))
+        }
+        _ => Reply::Now(Answer::Bad),
+    }
+}
+
+fn message_len(call: &IoCall) -> usize
+    ensures { result ≡ message_length call.now }
+{
+    match call {
+        IoCall::IoWrite(bytes) => bytes.as_slice().len(),
+        _ => 0,
+    }
+}
+
+/// Posts a call at an idle ioproc; the caller waits for its answer. The message is that of the call.
+fn post_call(board: &mut Board, t: Tid, k: u32, call: IoCall, message: Msg) -> Reply
+    requires room { HasRoom 0 board.old }
+    requires message { IsOfCall call message }
+    ensures { Gives board.old (post_call t k call (state_of board.old) (by_id (ioprocs_of board.old.desks.items) k)) result board.new }
+{
+    match find_ioproc(&board.desks, k) {
+        Some(Ioproc::Idle) => {
+            if message_len(&call) > 4_294_967_295 {
+                return Reply::Now(Answer::Bad);
+            }
+            let posted = Ioproc::Posted(t, copy_call(&call, message));
+            set_ioproc(&mut board.desks, k, posted);
+            board.wait(t, Request::Io(IoReq::IoRun { k, call }));
+            Reply::Waits
+        }
+        _ => Reply::Now(Answer::Bad),
+    }
+}
+
+/// Closes an idle ioproc.
+fn close_ioproc(board: &mut Board, k: u32) -> Reply
+    ensures { Gives board.old (close_ioproc k (state_of board.old) (by_id (ioprocs_of board.old.desks.items) k)) result board.new }
+{
+    match find_ioproc(&board.desks, k) {
+        Some(Ioproc::Idle) => {
+            set_ioproc(&mut board.desks, k, Ioproc::Closed);
+            Reply::Now(Answer::Done)
+        }
+        _ => Reply::Now(Answer::Bad),
+    }
+}
+
+/// A request on ioprocs. The message is that of its call.
+#[tactic(auto, unfolding(p9_manual::specs::Ioprocs::io_call))]
+pub(crate) fn io_call(board: &mut Board, t: Tid, request: IoReq, message: Msg) -> Reply
+    requires room { HasRoom 0 board.old }
+    requires message { IsForIo request message }
+    ensures { Gives board.old (io_call board.old.setup t request (state_of board.old)) result board.new }
+{
+    match request {
+        IoReq::IoProc { k } => make(board, k),
+        IoReq::IoRun { k, call } => post_call(board, t, k, call, message),
+        IoReq::CloseIoProc { k } => close_ioproc(board, k),
+    }
+}
+
+/// Whether the run is at its end for each ioproc.
+fn is_over(board: &Board) -> bool
+    ensures { result ≡ (board.now.over || not (list_any lives board.now.threads.items)) }
+{
+    board.over || !some_lives(&board.threads)
+}
+
+/// An ioproc takes the call that is posted at it.
+pub(crate) fn take_call(board: &mut Board, k: u32, spares: Spares) -> Reply
+    requires room { HasRoom 1 board.old }
+    requires buffers { HasBuffersFor (IoSeat k) IoTake (ioprocs_of board.old.desks.items) spares }
+    requires message { IsOfPosted (by_id (ioprocs_of board.old.desks.items) k) spares.extra }
+    ensures { Follows board.old (IoSeat k) (take_call k (state_of board.old) (by_id (ioprocs_of board.old.desks.items) k)) result board.new }
+{
+    let is_over = is_over(board);
+    match find_ioproc(&board.desks, k) {
+        None => Reply::Stray,
+        Some(Ioproc::Closed) => Reply::Over,
+        Some(Ioproc::Posted(_, call)) => {
+            if is_over {
+                return Reply::Over;
+            }
+            let Spares {
+                extra,
+                buffer,
+                second,
+            } = spares;
+            let told = copy_call(call, extra);
+            begin(&mut board.desks, k, buffer, second);
+            Reply::Took(told)
+        }
+        Some(Ioproc::Begun(..)) => { if is_over { Reply::Over } else { Reply::Stray } }
+        Some(Ioproc::Unmade | Ioproc::Idle) => { if is_over { Reply::Over } else { Reply::Idle } }
+    }
+}
+
+/// Whether an effect fits a call.
+fn fits(call: &IoCall, effect: &Effect) -> bool
+    ensures { result ≡ fits call.now effect.now }
+{
+    match (call, effect) {
+        (IoCall::IoOpen, Effect::Opened) => true,
+        (IoCall::IoOpen, Effect::Refused) => true,
+        (IoCall::IoClose, Effect::Shut) => true,
+        (IoCall::IoClose, Effect::Refused) => true,
+        (IoCall::IoReadN(n), Effect::Got { bytes, .. }) => {
+            let len = bytes.as_slice().len();
+            len <= *n as usize && len <= 65536
+        }
+        (IoCall::IoReadN(_), Effect::Refused) => true,
+        (IoCall::IoWrite(bytes), Effect::Wrote { count, failed }) => {
+            let len = bytes.as_slice().len();
+            *count as usize <= len && (*failed || *count as usize == len)
+        }
+        (IoCall::IoWrite(_), Effect::Refused) => true,
+        _ => false,
+    }
+}
+
+/// Wakes the thread that waits for a call, if there is one, with its answer.
+fn answer_caller(board: &mut Board, caller: Option<Tid>, answer: IoAnswer)
+    requires { vec_len board.old.line + 1 + calls_of board.old ≤ vec_capacity board.old.line }
+    ensures state { state_of board.new ≡ with_answer caller answer (state_of board.old) }
+    ensures desks { board.new.desks ≡ board.old.desks }
+    ensures setup { board.new.setup ≡ board.old.setup }
+{
+    match caller {
+        Some(t) => {
+            drop_waits_of(&mut board.waits, t);
+            board.ready(t, Answer::Io(answer));
+        }
+        None => {}
+    }
+}
+
+/// An ioproc tells what its begun call came to; the thread that waits for it is woken with the answer.
+pub(crate) fn did_call(board: &mut Board, k: u32, effect: &Effect, alloc: Global) -> Reply
+    ensures outcome { Follows board.old (IoSeat k) (did_call k effect.now (state_of board.old) (by_id (ioprocs_of board.old.desks.items) k)) result board.new }
+    ensures told { makes_entry result ≡ true → result ≡ Reply.Noted }
+    ensures fewer { makes_entry result ≡ true → calls_of board.new + 1 ≡ calls_of board.old }
+{
+    match find_ioproc(&board.desks, k) {
+        Some(Ioproc::Begun(caller, call)) => {
+            if !fits(call, effect) {
+                return Reply::Stray;
+            }
+            let caller = *caller;
+            let answer = finish(&mut board.desks, k, effect, alloc);
+            answer_caller(board, caller, answer);
+            Reply::Noted
+        }
+        _ => Reply::Stray,
+    }
+}

@@ -1,0 +1,176 @@
+ghost use Rattle.std.specs.Prelude.{◌≡◌, ◌-◌, ◌≤◌, ◌<◌, ◌^◌, [], true, false, Some, None, slice_get, length, replicate, IfOk, OnOk, OnErr, IfSome, IsSome};
+ghost use Rattle.p9_word.specs.declared.trail.Event.TheVariants.{IoDid};
+ghost use Rattle.p9_word.specs.Setup.{IsValid};
+ghost use Rattle.p9_manual.specs.State.{changed};
+ghost use Rattle.p9_manual.specs.Effects.{room_for, message_length};
+ghost use Rattle.p9_machine.specs.Plain.{IsPlain};
+
+use crate::begin::begin_board;
+use crate::board::Board;
+use crate::desks::{begun_count, lend};
+use crate::entries::{enter, record};
+use crate::reserve::{Reserved, reserved_for};
+use p9_word::{Effect, Event, NoMemory, Reply, Room, Seat, Setup, Trail};
+use std::alloc::Global;
+use std::marker::Model;
+
+/// The manual's machine: it does one event at a time, and keeps the trail.
+///
+/// Contracts see its setup, its entries, the event that there is memory for, and which buffers are here.
+#[derive(Drop)]
+pub struct Machine {
+    alloc: Global,
+    board: Board,
+    trail: Trail,
+    reserved: Option<Reserved>,
+}
+
+impl Model for Machine {
+    ghost use Rattle.p9_machine.specs.Shown.{Shown};
+
+    ghost Value = { Shown };
+
+    ghost use Rattle.p9_machine.specs.Kept.{IsKept, shown};
+
+    ghost view = { shown };
+
+    ghost invariant = { IsKept };
+}
+
+impl Machine {
+    ghost use Rattle.p9_machine.specs.Shown.{reply_to, after_event, call_begun, IsReserved};
+    ghost use Rattle.p9_manual.specs.History.{IsLegal, state_after};
+
+    /// A machine that has done nothing yet.
+    pub fn new(alloc: Global, setup: &Setup) -> Result<Machine, NoMemory>
+        requires valid { IsValid setup.now }
+        requires plain { IsPlain setup.now }
+        ensures { IfOk result (λ m. m ≡ record { setup = setup.now; entries = []; reserved = None; rooms = replicate setup.now.files false }) }
+    {
+        let board = begin_board(alloc, setup)?;
+        let trail = Trail {
+            procs: setup.procs,
+            start: setup.start,
+            entries: Room::new(alloc),
+        };
+        Ok(Machine {
+            alloc,
+            board,
+            trail,
+            reserved: None,
+        })
+    }
+
+    /// How many proc places there are.
+    pub fn places(&self) -> u32
+        ensures { result ≡ self.now.setup.places }
+    {
+        self.board.setup.places
+    }
+
+    /// How many files, and so ioprocs, there are. Each ioproc has a place for a buffer.
+    pub fn files(&self) -> u32
+        ensures files { result ≡ self.now.setup.files }
+        ensures rooms { length self.now.rooms ≡ length (state_after self.now.setup self.now.entries).ioprocs }
+    {
+        self.board.setup.files
+    }
+
+    /// Takes all memory that an event needs, and nothing else. For an `IoTake` that is also the memory of
+    /// what the ioproc tells later.
+    pub fn reserve(&mut self, seat: Seat, event: &Event) -> Result<(), NoMemory>
+        ensures ok { OnOk result (self.new ≡ record self.old { reserved = Some (seat, event.now) }) }
+        ensures err { OnErr result (self.new ≡ record self.old { reserved = None }) }
+    {
+        self.reserved = None;
+        let begun = begun_count(&self.board.desks);
+        self.trail.entries.reserve(begun + 2)?;
+        let reserved = reserved_for(&mut self.board, seat, event, self.alloc)?;
+        self.reserved = Some(reserved);
+        Ok(())
+    }
+
+    /// One event. There is memory for it, by the reserve before, or for what an ioproc tells since its
+    /// call began.
+    pub fn apply(&mut self, seat: Seat, event: Event) -> Reply
+        requires { IsReserved seat event self.old.reserved }
+        ensures reply { result ≡ reply_to self.old seat event }
+        ensures machine { self.new ≡ after_event self.old seat event result }
+    {
+        match event {
+            Event::IoDid(effect) => self.tell(seat, effect),
+            Event::Call(t, request) => self.enter(seat, Event::Call(t, request)),
+            Event::Next => self.enter(seat, Event::Next),
+            Event::IoTake => self.enter(seat, Event::IoTake),
+        }
+    }
+
+    fn enter(&mut self, seat: Seat, event: Event) -> Reply
+        requires { self.old.reserved ≡ Some (seat, event) }
+        ensures reply { result ≡ reply_to self.old seat event }
+        ensures machine { self.new ≡ after_event self.old seat event result }
+    {
+        let Some(reserved) = self.reserved.take() else {
+            unreachable!();
+        };
+        enter(
+            &mut self.board,
+            &mut self.trail.entries,
+            event,
+            reserved,
+            self.alloc,
+        )
+    }
+
+    fn tell(&mut self, seat: Seat, effect: Effect) -> Reply
+        ensures reply { result ≡ reply_to self.old seat (IoDid effect) }
+        ensures machine { self.new ≡ after_event self.old seat (IoDid effect) result }
+    {
+        self.reserved = None;
+        record(
+            &mut self.board,
+            &mut self.trail.entries,
+            seat,
+            effect,
+            self.alloc,
+        )
+    }
+
+    /// Hands out the buffer of the call that ioproc k has begun, for the bytes that come of it.
+    pub fn room(&mut self, k: u32) -> Room<u8>
+        requires begun { IsSome (call_begun k self.old) }
+        requires here { slice_get self.old.rooms (k - 1) ≡ Some true }
+        ensures items { result.items ≡ [] }
+        ensures spare { IfSome (call_begun k self.old) (λ call. room_for call ≤ result.spare) }
+        ensures short { IfSome (call_begun k self.old) (λ call. message_length call < 2 ^ 32) }
+        ensures machine { self.new ≡ record self.old { rooms = changed (λ _. false) self.old.rooms (k - 1) } }
+    {
+        lend(&mut self.board.desks, k, self.alloc)
+    }
+
+    /// All that happened.
+    pub fn trail(&self) -> &Trail
+        ensures entries { result.now.entries.items ≡ self.now.entries }
+        ensures procs { result.now.procs ≡ self.now.setup.procs }
+        ensures start { result.now.start ≡ self.now.setup.start }
+        ensures legal { IsLegal self.now.setup self.now.entries }
+    {
+        &self.trail
+    }
+
+    /// All that happened, of a machine that is done with.
+    pub fn into_trail(self) -> Trail
+        ensures entries { result.entries.items ≡ self.entries }
+        ensures procs { result.procs ≡ self.setup.procs }
+        ensures start { result.start ≡ self.setup.start }
+        ensures legal { IsLegal self.setup self.entries }
+    {
+        let Machine {
+            alloc: _,
+            board: _,
+            trail,
+            reserved: _,
+        } = self;
+        trail
+    }
+}
