@@ -1,0 +1,247 @@
+-- What the run of a copy's text comes to, by how its files were opened and closed.
+use Rattle.std.specs.Prelude.{ℕ, ◌≡◌, ◌≢◌, ◌≤◌, ◌<◌, ◌+◌, ◌-◌, ◌^◌, ◌⊎◌, ◌||◌, ◌++◌, ◌↔◌, min, Bool, true, false, List, [], ◌∷◌, length, take, slice_index_or, zero, suc, Option, Some, None, Result, Ok, Err, MatchBool, MatchResult, OnOk, if◌then◌else◌}
+use Rattle.std.specs.Io.KnownBytes.{Consumes, Appends}
+use Rattle.std.proofs.Common.{sym, ◌∙◌, ap, subst, refl, inl, inr, arith}
+use Rattle.p9_word.specs.declared.io_call.IoCall.{IoCall}
+use Rattle.p9_word.specs.declared.io_call.Effect.{Effect}
+use Rattle.p9_word.specs.declared.memory.NoMemory.{NoMemory}
+use Rattle.p9_word.specs.declared.setup.ChanSetup.{ChanSetup}
+use Rattle.p9_word.specs.declared.setup.Setup.{Setup}
+use Rattle.p9_word.specs.declared.trail.Entry.{Entry}
+use Rattle.p9_word.specs.Setup.{IsValid}
+use Rattle.p9_manual.specs.Files.{given, joined, written}
+use Rattle.p9_manual.specs.Ending.{EndsOver, HasEnded, ends_stuck}
+use Rattle.p9_manual.specs.History.{IsLegal}
+use Rattle.p9_manual.specs.RunReplies.{reply_at}
+use Rattle.p9_manual.specs.FilesInHistory.{calls_at, services_at}
+use Rattle.p9_outside.specs.declared.files.FilesFault.{FilesFault}
+use Rattle.p9_outside.specs.declared.files.FilesFault.TheVariants.{Failed, Memory}
+use Rattle.p9_machine.specs.Plain.{IsPlain}
+use Rattle.p9_outside.specs.Causes.{RoseBy, Rose}
+use Rattle.p9_outside.specs.Contents.{Told, Stay, Opens, IsFresh, Puts}
+use Rattle.p9_outside.specs.Reading.{FullReads}
+use Rattle.p9_run.proofs.FileRuns.{full_untold}
+use Rattle.p9_run.proofs.Lifts.{stay_on}
+use Rattle.p9_run.proofs.Runs.{calls_none, history_none}
+use Rattle.p9_run.specs.CopyEnd.{GivenFrom, IsFrontOf, IsGiven, told_at, Holds, RunsNothing, RunsWhole, TellsFaults, CopyEnds, CopyStops, calls_failed, is_open, IsInFault, IsOutFault, IsCopyHistory, failed_at, unopened, run_end, IsFinished, IsClosed, IsStopped}
+use Rattle.p9_run.specs.CopyPrograms.{copy_asks}
+use Rattle.p9_run.specs.CopySetup.{copy_setup}
+use Rattle.p9_run.specs.Moves.{Moves}
+use Rattle.p9_run.specs.Over.{AllOver}
+use Rattle.p9_run.specs.declared.report.FileFault.{FileFault}
+use Rattle.p9_run.specs.declared.report.FileFault.TheVariants.{Open, Read, Write, Close}
+use Rattle.p9_run.specs.declared.report.RunEnd.{RunEnd}
+
+-- no history is a run of a copy's text
+pub no_history : IsCopyHistory []
+no_history = record { legal = tt; files = history_none copy_asks }
+
+only_chan : (k : ℕ) (d : ChanSetup) → k < 1 → (slice_index_or copy_setup.chans k d).cap ≡ 0
+only_chan zero d below = refl
+only_chan (suc k) d below = absurd (omega arith)
+
+-- the setup of a copy is one that machines have so far
+pub copy_is_plain : IsPlain copy_setup
+copy_is_plain =
+    record { places = refl; opened = refl; chans = only_chan; locks = refl; qlocks = refl; rwlocks = refl; rendezes = refl; refs = refl }
+
+front_none : (o : Option (List ℕ)) → IsFrontOf [] o
+front_none None = refl
+front_none (Some xs) = (xs, refl)
+
+nothing_given : (told : Told) (path : List ℕ) → GivenFrom told path []
+nothing_given None path = tt
+nothing_given (Some f) path = front_none (f path)
+
+given_none : (told : Told) (path : List ℕ) → IsGiven told path []
+given_none told path = record { front = rw calls_none (nothing_given told path); full = rw calls_none tt }
+
+-- a file couldn't be opened: the in file, or the out file
+not_opened_in : (told told' : Told) (calls calls' : ℕ) (from to : List ℕ) → Stay told told' → calls ≤ calls' → Rose calls calls' → CopyEnds told told' calls calls' from to [] (record { stuck = false; input = Some Open; output = None })
+not_opened_in told told' calls calls' from to stay later rose =
+    record {
+      faults = record {
+        stuck = refl;
+        input = (λ e. cc, λ e. cc);
+        output = λ e. cc;
+        calls_rose = (later, omega (arith, rose));
+        read = (λ e. cc, λ e. cc);
+        write = (λ e. cc, λ e. cc);
+      };
+      given_is = given_none told from;
+      contents = record { history_is = refl; contents = stay };
+    }
+
+not_opened_out : (told told' : Told) (calls calls' : ℕ) (from to : List ℕ) → Stay told told' → calls ≤ calls' → Rose calls calls' → CopyEnds told told' calls calls' from to [] (record { stuck = false; input = None; output = Some Open })
+not_opened_out told told' calls calls' from to stay later rose =
+    record {
+      faults = record {
+        stuck = refl;
+        input = (λ e. cc, λ e. cc);
+        output = λ e. cc;
+        calls_rose = (later, omega (arith, rose));
+        read = (λ e. cc, λ e. cc);
+        write = (λ e. cc, λ e. cc);
+      };
+      given_is = given_none told from;
+      contents = record { history_is = refl; contents = stay };
+    }
+
+-- what holds of an end, or where memory was wanted
+abbrev pub EndsOrStops : Told → Told → ℕ → ℕ → List ℕ → List ℕ → List Entry → Result RunEnd NoMemory → Type 0
+EndsOrStops told told' calls calls' from to history end =
+    MatchResult end (λ e. CopyEnds told told' calls calls' from to history e) (λ _. CopyStops told told' from to history)
+
+unopened_ends : (fault : FilesFault) (input : Bool) (told told' : Told) (calls calls' : ℕ) (from to : List ℕ) → Stay told told' → calls ≤ calls' → (fault ≡ Failed → Rose calls calls') → EndsOrStops told told' calls calls' from to [] (unopened fault input)
+unopened_ends Failed true told told' calls calls' from to stay later rose = not_opened_in told told' calls calls' from to stay later (rose refl)
+unopened_ends Failed false told told' calls calls' from to stay later rose = not_opened_out told told' calls calls' from to stay later (rose refl)
+unopened_ends Memory input told told' calls calls' from to stay later rose = record { given_is = given_none told from; contents = inr stay }
+
+-- a file couldn't be opened
+pub not_opened : (fault : FilesFault) (input : Bool) (told told' : Told) (calls calls' : ℕ) (from to : List ℕ) (history : List Entry) (end : Result RunEnd NoMemory) → end ≡ unopened fault input → history ≡ [] → Stay told told' → calls ≤ calls' → (fault ≡ Failed → Rose calls calls') → EndsOrStops told told' calls calls' from to history end
+not_opened fault input told told' calls calls' from to history end is none stay later rose =
+    rw (is, none) (unopened_ends fault input told told' calls calls' from to stay later rose)
+
+-- memory was wanted before anything was run
+pub not_made : (told told' : Told) (calls calls' : ℕ) (from to : List ℕ) (history : List Entry) (end : Result RunEnd NoMemory) (wanted : NoMemory) → end ≡ Err wanted → history ≡ [] → Stay told told' → EndsOrStops told told' calls calls' from to history end
+not_made told told' calls calls' from to history end wanted is none stay =
+    rw (is, none) (record { given_is = given_none told from; contents = inr stay })
+
+front_of : (o : Option (List ℕ)) (xs ys bs : List ℕ) → o ≡ Some xs → xs ≡ bs ++ ys → IsFrontOf bs o
+front_of None xs ys bs e f = absurd (cc e)
+front_of (Some zs) xs ys bs e f = (ys, cc)
+
+given_opened : (a : Told) (path : List ℕ) (l m : Option (List ℕ)) (bs : List ℕ) → Opens a path l → Consumes l m bs → GivenFrom a path bs
+given_opened None path l m bs opens takes = tt
+given_opened (Some f) path None m bs opens takes = absurd opens
+given_opened (Some f) path (Some xs) None bs opens takes = absurd takes
+given_opened (Some f) path (Some xs) (Some ys) bs opens takes = front_of (f path) xs ys bs opens takes
+
+full_opened : (a : Told) (path : List ℕ) (l : Option (List ℕ)) (services : List (IoCall × Effect)) → Opens a path l → FullReads false l services → FullReads false (told_at a path) services
+full_opened None path l services opens full = full_untold false services
+full_opened (Some f) path None services opens full = absurd opens
+full_opened (Some f) path (Some xs) services opens full = rw opens full
+
+holds_after : (a b c d : Told) (path : List ℕ) (h k : Option (List ℕ)) (bs : List ℕ) → Stay a b → Stay b c → IsFresh b h → Appends h k bs → Puts c d path k → Holds a d path bs
+holds_after None b c d path h k bs s t fresh takes puts = tt
+holds_after (Some f) None c d path h k bs s t fresh takes puts = absurd s
+holds_after (Some f) (Some g) None d path h k bs s t fresh takes puts = absurd t
+holds_after (Some f) (Some g) (Some m) None path h k bs s t fresh takes puts = absurd puts
+holds_after (Some f) (Some g) (Some m) (Some n) path None k bs s t fresh takes puts = absurd fresh
+holds_after (Some f) (Some g) (Some m) (Some n) path (Some xs) None bs s t fresh takes puts = absurd takes
+holds_after (Some f) (Some g) (Some m) (Some n) path (Some xs) (Some ys) bs s t fresh takes puts =
+    (puts.0 ∙ ap Some (takes ∙ ap (λ z. z ++ bs) fresh), λ p ne. puts.1 p ne ∙ t p ∙ s p)
+
+-- the line of the in file
+abbrev in_line : Bool → Option FileFault
+in_line read = if read then Some Read else None
+
+-- the line of the out file, by its line where no write failed
+abbrev out_line : Bool → Option FileFault → Option FileFault
+out_line write close = if write then Some Write else close
+
+in_fault : (read : Bool) → IsInFault (in_line read)
+in_fault true = (λ e. cc, λ e. cc)
+in_fault false = (λ e. cc, λ e. cc)
+
+in_read : (read : Bool) → (in_line read ≡ Some Read) ↔ (read ≡ true)
+in_read true = (λ e. refl, λ e. refl)
+in_read false = (λ e. cc, λ e. cc)
+
+in_calls : (read : Bool) → calls_failed (in_line read) ≡ 0
+in_calls true = refl
+in_calls false = refl
+
+out_fault : (write : Bool) (close : Option FileFault) → close ≢ Some Read → IsOutFault (out_line write close)
+out_fault true close other = λ e. cc
+out_fault false close other = other
+
+out_write : (write : Bool) (close : Option FileFault) → close ≢ Some Write → (out_line write close ≡ Some Write) ↔ (write ≡ true)
+out_write true close other = (λ e. refl, λ e. refl)
+out_write false close other = (λ e. absurd (other e), λ e. cc)
+
+both_opened : (read write : Bool) (close : Option FileFault) → is_open close ≡ false → (is_open (in_line read) || is_open (out_line write close)) ≡ false
+both_opened true true close other = refl
+both_opened true false close other = other
+both_opened false true close other = refl
+both_opened false false close other = other
+
+rose_none : (write : Bool) (x w : ℕ) → x ≤ w → RoseBy (calls_failed (out_line write None)) x w
+rose_none true x w later = (later, omega arith)
+rose_none false x w later = (later, omega arith)
+
+rose_close : (write : Bool) (x w : ℕ) → x ≤ w → Rose x w → RoseBy (calls_failed (out_line write (Some Close))) x w
+rose_close true x w later rose = (later, omega arith)
+rose_close false x w later rose = (later, omega (arith, rose))
+
+rose_before : (n x y z : ℕ) → x ≤ y → RoseBy n y z → RoseBy n x z
+rose_before n x y z later r = (omega (arith, r.0), omega (arith, r.0, r.1))
+
+rose_in : (read : Bool) (n x w : ℕ) → RoseBy n x w → RoseBy (calls_failed (in_line read) + n) x w
+rose_in true n x w r = (r.0, omega (arith, r.1))
+rose_in false n x w r = (r.0, omega (arith, r.1))
+
+-- the lines of a run that went to its end, where the out file's closing gives this line
+closed_faults : (stuck read write : Bool) (close : Option FileFault) (history : List Entry) (x w : ℕ) → stuck ≡ ends_stuck history → read ≡ failed_at 1 history → write ≡ failed_at 2 history → close ≢ Some Read → close ≢ Some Write → RoseBy (calls_failed (out_line write close)) x w → TellsFaults (record { stuck = stuck; input = in_line read; output = out_line write close }) history x w
+closed_faults stuck read write close history x w is_stuck is_read is_write no_read no_write rose =
+    record {
+      stuck = is_stuck;
+      input = in_fault read;
+      output = out_fault write close no_read;
+      calls_rose = rose_in read (calls_failed (out_line write close)) x w rose;
+      read = subst (λ (b : Bool). (in_line read ≡ Some Read) ↔ (b ≡ true)) is_read (in_read read);
+      write = subst (λ (b : Bool). (out_line write close ≡ Some Write) ↔ (b ≡ true)) is_write (out_write write close no_write);
+    }
+
+not_none : (write : Bool) → out_line write (Some Close) ≢ None
+not_none true = λ e. cc
+not_none false = λ e. cc
+
+module _ (told a b c : Told) (x y z w : ℕ) (from to : List ℕ) (left left' held held' : Option (List ℕ)) (reads reads' writes writes' : ℕ) (history : List Entry) (first : Stay told a) (second : Stay a b) (later : x ≤ y) (later' : y ≤ z) (opens : Opens told from left) (fresh : IsFresh a held) (moves : Moves history left left' held held' reads reads' writes writes') where
+  stay_ab : Stay told b
+  stay_ab = stay_on told a b first second
+
+  given_was : IsGiven told from history
+  given_was = record { front = given_opened told from left left' _ opens moves.given; full = full_opened told from left (services_at 1 history) opens moves.full }
+
+  holds_put : Puts b c to held' → Holds told c to (written (services_at 2 history))
+  holds_put puts = holds_after told a b c to held held' _ first second fresh moves.written puts
+
+  -- the run went to its end, and the out file was closed so
+  closed_ends : (closed : Result (Unit {0}) FilesFault) → HasEnded copy_setup history → z ≤ w → (closed ≡ Err Failed → Rose z w) → MatchResult closed (λ _. Puts b c to held') (λ _. Stay b c) → EndsOrStops told c x w from to history (run_end (ends_stuck history) (failed_at 1 history) (failed_at 2 history) closed)
+  closed_ends (Ok u) ended more rose puts =
+      record {
+        faults = closed_faults (ends_stuck history) (failed_at 1 history) (failed_at 2 history) None history x w refl refl refl (λ e. cc) (λ e. cc) (rose_none (failed_at 2 history) x w (omega arith));
+        given_is = given_was;
+        contents = subst (λ (o : Bool). MatchBool o (RunsNothing told c history) (RunsWhole told c to history (out_line (failed_at 2 history) None))) (sym (both_opened (failed_at 1 history) (failed_at 2 history) None refl))
+            (record { ended = ended; whole = λ none. holds_put puts; either = inl (holds_put puts) });
+      }
+  closed_ends (Err Failed) ended more rose stays =
+      record {
+        faults = closed_faults (ends_stuck history) (failed_at 1 history) (failed_at 2 history) (Some Close) history x w refl refl refl (λ e. cc) (λ e. cc)
+            (rose_before (calls_failed (out_line (failed_at 2 history) (Some Close))) x z w (omega arith) (rose_close (failed_at 2 history) z w more (rose refl)));
+        given_is = given_was;
+        contents = subst (λ (o : Bool). MatchBool o (RunsNothing told c history) (RunsWhole told c to history (out_line (failed_at 2 history) (Some Close)))) (sym (both_opened (failed_at 1 history) (failed_at 2 history) (Some Close) refl))
+            (record { ended = ended; whole = λ none. absurd (not_none (failed_at 2 history) none); either = inr (stay_on told b c stay_ab stays) });
+      }
+  closed_ends (Err Memory) ended more rose stays =
+      record { given_is = given_was; contents = inr (stay_on told b c stay_ab stays) }
+
+  stopped : (end : Result RunEnd NoMemory) → IsStopped b c z w end → EndsOrStops told c x w from to history end
+  stopped (Ok e) s = absurd (s.end_is e refl)
+  stopped (Err wanted) s =
+      record { given_is = given_was; contents = inr (subst (λ (d : Told). Stay told d) (sym s.contents) stay_ab) }
+
+  -- a run was finished
+  pub finished : (outcome : Result (Unit {0}) NoMemory) (end : Result RunEnd NoMemory) → OnOk outcome (HasEnded copy_setup history) → IsFinished b c z w to held' outcome history end → EndsOrStops told c x w from to history end
+  finished (Ok u) end ended f = rw f.end_is (closed_ends f.closed ended f.later f.failed f.contents)
+  finished (Err wanted) end ended f = stopped end f
+
+-- a run of which all procs are over has ended
+pub run_ended : (outcome : Result (Unit {0}) NoMemory) (setup : Setup) (entries history : List Entry) → setup ≡ copy_setup → IsValid setup → history ≡ entries → IsLegal setup entries → ((s : Setup) (es : List Entry) → EndsOver s es) → OnOk outcome (AllOver 1 (reply_at setup entries)) → OnOk outcome (HasEnded copy_setup history)
+run_ended (Err wanted) setup entries history is valid same legal law over = tt
+run_ended (Ok u) setup entries history is valid same legal law over =
+    let legal' : IsLegal copy_setup entries = subst (λ (s : Setup). IsLegal s entries) is legal in
+    let valid' : IsValid copy_setup = subst (λ (s : Setup). IsValid s) is valid in
+    let over' : AllOver 1 (reply_at copy_setup entries) = subst (λ (s : Setup). AllOver 1 (reply_at s entries)) is over in
+    rw same (law copy_setup entries valid' legal' over')

@@ -1,0 +1,17 @@
+pub mod Differing
+pub mod CopyLines
+pub mod TextReads
+pub mod Lifts
+pub mod Lives
+pub mod Paired
+pub mod Slots
+pub mod Turns
+pub mod Untouched
+pub mod Reached
+pub mod Streams
+pub mod FileRuns
+pub mod Services
+pub mod Devices
+pub mod Runs
+pub mod CopyRuns
+pub mod EngineSteps

@@ -1,0 +1,131 @@
+-- A run that has done nothing yet, and what a run over two files comes to.
+use Rattle.std.proofs.Common.{◌≡◌, ℕ, ◌+◌, ◌-◌, ◌<◌, take, get_or, Bool, true, false, List, [], ◌∷◌, ◌++◌, refl, ap, subst, arith}
+use Rattle.std.specs.Prelude.{Option, Some}
+use Rattle.p9_word.specs.declared.answer.Answer.{Answer}
+use Rattle.p9_word.specs.declared.io_call.IoCall.{IoCall}
+use Rattle.p9_word.specs.declared.io_call.Effect.{Effect}
+use Rattle.p9_word.specs.declared.request.Request.{Request}
+use Rattle.p9_word.specs.declared.trail.Entry.{Entry}
+use Rattle.p9_manual.specs.Programs.{Unborn, life, Asks, RunsPrograms}
+use Rattle.p9_manual.specs.FilesInHistory.{calls_at, effects_at, services_at}
+use Rattle.p9_outside.specs.declared.reading.ReadDevice.{ReadDevice}
+use Rattle.p9_outside.specs.declared.writing.WriteDevice.{WriteDevice}
+use Rattle.p9_outside.specs.declared.file_device.FileDevice.{FileDevice}
+use Rattle.p9_outside.specs.declared.file_device.FileDevice.TheVariants.{In, Out}
+use Rattle.p9_manual.specs.Files.{At, TreatsAsFile, at_first}
+use Rattle.p9_outside.specs.Reading.{reader_at, FullReads}
+use Rattle.p9_outside.specs.Writing.{writer_at}
+use Rattle.p9_outside.specs.FileServices.{FileServes}
+use Rattle.p9_run.proofs.FileRuns.{reader_is_file, reader_gives, reader_tells, reader_full, rest_self, writer_is_file, writer_takes, writer_tells, stays_in, stays_out}
+use Rattle.p9_run.proofs.Streams.{consumes_none, appends_none}
+use Rattle.p9_run.specs.Stands.{Between}
+use Rattle.p9_run.specs.Services.{Serves, AllServe}
+use Rattle.p9_run.specs.Moves.{RunsOnFiles, Moves}
+use Rattle.p9_run.specs.Directions.{in_of, out_of}
+
+runs_none : (asks : Asks) → RunsPrograms asks []
+unfolding RunsPrograms
+runs_none asks = tt
+
+life_none : (u : ℕ) → life u [] ≡ Unborn
+unfolding life
+life_none u = refl
+
+pub calls_none : (k : ℕ) → calls_at k [] ≡ []
+unfolding calls_at
+calls_none k = refl
+
+effects_none : (k : ℕ) → effects_at k [] ≡ []
+unfolding effects_at
+effects_none k = refl
+
+pub between_none : {B : Type 0} (asks : Asks) (plan : B → List Answer → Request) (stands : B → List Answer → Type 0) (slots : List (Option B)) → Between asks plan stands [] slots
+between_none asks plan stands slots = record { runs = runs_none asks; each = λ u. rw life_none tt }
+
+serves_none : {D : Type 0} (serves : D → IoCall → Effect → D → Type 0) (k : ℕ) (d : D) → Serves serves k [] d d
+serves_none serves k d = record { is_done = rw (calls_none, effects_none) refl; reached = rw calls_none refl }
+
+pub all_serve_none : {D : Type 0} (serves : D → IoCall → Effect → D → Type 0) (k : ℕ) (devices : List D) → AllServe serves [] k devices devices
+all_serve_none serves k [] = tt
+all_serve_none serves k (d ∷ devices) = (serves_none serves k d, all_serve_none serves (k + 1) devices)
+
+pub history_none : (asks : Asks) → RunsOnFiles asks []
+history_none asks =
+    record {
+      runs = runs_none asks;
+      reads = rw calls_none tt;
+      writes = rw calls_none tt;
+      read_done = rw (calls_none, effects_none) refl;
+      write_done = rw (calls_none, effects_none) refl;
+    }
+
+pub moves_none : (left held : Option (List ℕ)) (faults counts : ℕ) → Moves [] left left held held faults faults counts counts
+moves_none left held faults counts =
+    record {
+      given = rw calls_none (consumes_none left);
+      full = rw calls_none tt;
+      written = rw calls_none (appends_none held);
+      read_faults = rw calls_none (omega arith, omega arith);
+      write_faults = rw calls_none (omega arith, omega arith);
+    }
+
+two : {D : Type 0} {d e x y : D} → d ≡ x → e ≡ y → ◌≡◌ {A = List D} (d ∷ e ∷ []) (x ∷ y ∷ [])
+two p q = cc
+
+module _ {S K : Type 0} (left : S → Option (List ℕ)) (faults : S → ℕ) (held : K → Option (List ℕ)) (counts : K → ℕ) where
+  -- what the two devices are after a run
+  pub record RanFiles (asks : Asks) (history : List Entry) (source : S) (sink : K) (devices : List (FileDevice S K)) : Type 0 where
+    pub reader : ReadDevice S
+    pub writer : WriteDevice K
+    pub devices_are : devices ≡ In reader ∷ Out writer ∷ []
+    pub history_is : RunsOnFiles asks history
+    pub moves : Moves history (left source) (left reader.source) (held sink) (held writer.sink) (faults source) (faults reader.source) (counts sink) (counts writer.sink)
+
+  pub ran_files : (asks : Asks) (history : List Entry) (reader : ReadDevice S) (writer : WriteDevice K) (devices : List (FileDevice S K)) → RunsPrograms asks history → reader_at reader ≡ at_first → writer_at writer ≡ at_first → AllServe (FileServes left faults held counts) history 1 (In reader ∷ Out writer ∷ []) devices → RanFiles asks history reader.source writer.sink devices
+  ran_files asks history reader writer [] runs a b all = absurd all
+  ran_files asks history reader writer (d ∷ []) runs a b all = absurd all.1
+  ran_files asks history reader writer (d ∷ e ∷ f ∷ devices) runs a b all = absurd all.1.1
+  ran_files asks history reader writer (d ∷ e ∷ []) runs a b all =
+      let in_now = stays_in left faults held counts reader d (services_at 1 history) all.0.reached in
+      let out_now = stays_out left faults held counts writer e (services_at 2 history) all.1.0.reached in
+      record {
+        reader = in_now.0;
+        writer = out_now.0;
+        devices_are = two in_now.1 out_now.1;
+        history_is = record {
+          runs = runs;
+          reads = subst (λ (at : At). TreatsAsFile false at (services_at 1 history)) a (reader_is_file left faults reader in_now.0 (services_at 1 history) in_now.2);
+          writes = subst (λ (at : At). TreatsAsFile true at (services_at 2 history)) b (writer_is_file held counts writer out_now.0 (services_at 2 history) out_now.2);
+          read_done = all.0.is_done;
+          write_done = all.1.0.is_done;
+        };
+        moves = record {
+          given = reader_gives left faults reader in_now.0 (services_at 1 history) in_now.2;
+          full = subst (λ (b : Bool). FullReads b (left reader.source) (services_at 1 history)) (ap (λ (at : At). at.failed) a) (reader_full left faults reader in_now.0 (services_at 1 history) (left reader.source) (rest_self (left reader.source)) in_now.2);
+          written = writer_takes held counts writer out_now.0 (services_at 2 history) out_now.2;
+          read_faults = reader_tells left faults reader in_now.0 (services_at 1 history) in_now.2;
+          write_faults = writer_tells held counts writer out_now.0 (services_at 2 history) out_now.2;
+        };
+      }
+
+  pub ended : (asks : Asks) (before history : List Entry) (reader : ReadDevice S) (writer : WriteDevice K) (source : S) (sink : K) (devices devices' : List (FileDevice S K)) → before ≡ [] → RunsPrograms asks history → reader_at reader ≡ at_first → writer_at writer ≡ at_first → reader.source ≡ source → writer.sink ≡ sink → devices ≡ In reader ∷ Out writer ∷ [] → ((firsts : List (FileDevice S K)) → AllServe (FileServes left faults held counts) before 1 firsts devices → AllServe (FileServes left faults held counts) history 1 firsts devices') → RanFiles asks history source sink devices'
+  ended asks before history reader writer source sink devices devices' none runs a b is_source is_sink are served =
+      let start : AllServe (FileServes left faults held counts) before 1 (In reader ∷ Out writer ∷ []) devices = rw (none, are) (all_serve_none (FileServes left faults held counts) 1 (In reader ∷ Out writer ∷ [])) in
+      rw⁻¹ (is_source, is_sink) (ran_files asks history reader writer devices' runs a b (served (In reader ∷ Out writer ∷ []) start))
+
+  pub writer_is : (asks : Asks) (history : List Entry) (source : S) (sink : K) (xs ys : List (FileDevice S K)) (n : ℕ) (o : Option (FileDevice S K)) (ran : RanFiles asks history source sink xs) → n ≡ 2 → ((d : FileDevice S K) → 0 < n → o ≡ Some (get_or (take n (xs ++ ys)) (n - 1) d)) → out_of o ≡ Some ran.writer
+  writer_is asks history source sink xs ys n o ran two value =
+      let v : o ≡ Some (Out ran.writer) = rw (two, ran.devices_are) at (value (Out ran.writer) (omega (arith, two))) in
+      rw v refl
+
+  pub reader_is : (asks : Asks) (history : List Entry) (source : S) (sink : K) (xs ys rest : List (FileDevice S K)) (n m : ℕ) (o : Option (FileDevice S K)) (ran : RanFiles asks history source sink xs) → n ≡ 2 → m ≡ 1 → rest ≡ take (n - 1) (take n (xs ++ ys)) → ((d : FileDevice S K) → 0 < m → o ≡ Some (get_or rest (m - 1) d)) → in_of o ≡ Some ran.reader
+  reader_is asks history source sink xs ys rest n m o ran two one rest_is value =
+      let r : rest ≡ In ran.reader ∷ [] = rw (two, ran.devices_are) at rest_is in
+      let v : o ≡ Some (In ran.reader) = rw (one, r) at (value (In ran.reader) (omega (arith, one))) in
+      rw v refl
+
+  pub moves_at : (asks : Asks) (history : List Entry) (source : S) (sink : K) (xs : List (FileDevice S K)) (ran : RanFiles asks history source sink xs) (reader : ReadDevice S) (writer : WriteDevice K) → Some reader ≡ Some ran.reader → Some writer ≡ Some ran.writer → Moves history (left source) (left reader.source) (held sink) (held writer.sink) (faults source) (faults reader.source) (counts sink) (counts writer.sink)
+  moves_at asks history source sink xs ran reader writer r w =
+      let r' : reader ≡ ran.reader = cc in
+      let w' : writer ≡ ran.writer = cc in
+      rw (r', w') ran.moves

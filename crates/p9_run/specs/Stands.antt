@@ -1,0 +1,38 @@
+-- Which bodies go with a history.
+use Rattle.std.specs.Prelude.{ℕ, ◌≡◌, ◌≢◌, List, [], ◌∷◌, ◌++◌, Option, Some, None}
+use Rattle.p9_word.specs.declared.answer.Answer.{Answer}
+use Rattle.p9_word.specs.declared.request.Request.{Request}
+use Rattle.p9_word.specs.declared.trail.Entry.{Entry}
+use Rattle.p9_manual.specs.Programs.{Life, Unborn, Lives, Dead, life, Asks, RunsPrograms}
+use Rattle.p9_run.specs.Slots.{slot}
+
+-- a thread's body stands for the answers that the history gives it
+abbrev pub Stands : {B : Type 0} → Asks → (B → List Answer → Request) → (B → List Answer → Type 0) → Life → Option B → Type 0
+Stands asks plan stands (Lives program arg answers) (Some b) = (plan b ≡ asks program arg) × stands b answers
+Stands asks plan stands (Lives program arg answers) None = ⊥
+Stands asks plan stands Unborn o = Unit {0}
+Stands asks plan stands Dead o = Unit {0}
+
+-- a body stands for all of these answers but the last
+pub record Pending {B : Type 0} (asked : List Answer → Request) (plan : B → List Answer → Request) (stands : B → List Answer → Type 0) (answers : List Answer) (last : Answer) (b : B) : Type 0 where
+  pub plan_is : plan b ≡ asked
+  pub before : List Answer
+  pub answers_are : answers ≡ before ++ last ∷ []
+  pub stands_for : stands b before
+
+-- the body of a running thread, which hasn't yet had the last answer
+abbrev pub IsReady : {B : Type 0} → Asks → (B → List Answer → Request) → (B → List Answer → Type 0) → Life → Answer → B → Type 0
+IsReady asks plan stands (Lives program arg answers) last b = Pending (asks program arg) plan stands answers last b
+IsReady asks plan stands Unborn last b = ⊥
+IsReady asks plan stands Dead last b = ⊥
+
+-- between two turns: each living thread's body is here
+pub record Between {B : Type 0} (asks : Asks) (plan : B → List Answer → Request) (stands : B → List Answer → Type 0) (history : List Entry) (slots : List (Option B)) : Type 0 where
+  pub runs : RunsPrograms asks history
+  pub each : (u : ℕ) → Stands asks plan stands (life u history) (slot slots u)
+
+-- in a turn of thread t: its body is out, and the others are here
+pub record InTurn {B : Type 0} (asks : Asks) (plan : B → List Answer → Request) (stands : B → List Answer → Type 0) (history : List Entry) (slots : List (Option B)) (t : ℕ) (last : Answer) (b : B) : Type 0 where
+  pub runs : RunsPrograms asks history
+  pub others : (u : ℕ) → u ≢ t → Stands asks plan stands (life u history) (slot slots u)
+  pub ready : IsReady asks plan stands (life t history) last b

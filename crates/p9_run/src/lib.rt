@@ -1,0 +1,27 @@
+//! The top calls of p9pipe: the copy of one file by a reading and a writing thread.
+#![tactic(auto)]
+
+mod bodies;
+mod command;
+mod copy_files;
+mod copy_programs;
+mod copy_setup;
+#[cfg(test)]
+mod copy_tests;
+mod copy_text;
+mod engine;
+mod file_text;
+mod io_turn;
+mod machine_engine;
+mod proc_turn;
+mod program;
+mod reader;
+mod report;
+mod rounds;
+mod run_files;
+mod stage;
+#[cfg(test)]
+mod tests;
+mod writer;
+
+pub use program::{Outcome, pipe_main};

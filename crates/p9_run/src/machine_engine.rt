@@ -1,0 +1,65 @@
+ghost use Rattle.std.specs.Prelude.{◌≡◌, IfOk, OnErr};
+ghost use Rattle.p9_manual.specs.History.{IsLegal, with_entry};
+ghost use Rattle.p9_manual.specs.RunReplies.{reply_at};
+ghost use Rattle.p9_run.specs.Over.{StaysOver};
+ghost use Rattle.p9_machine.specs.Shown.{rooms_after};
+
+use crate::engine::Engine;
+use p9_machine::Machine;
+use p9_manual::laws::running::{
+    answered_threads_run_on, fitting_effects_are_noted, over_stays_over, posted_calls_are_taken,
+    running_calls_are_served, taken_calls_are_begun, turns_go_to_living_threads, turns_make_run,
+};
+use p9_word::{Effect, Event, IoCall, NoMemory, Reply, Request, Room, Seat, Tid};
+
+/// One event, for which memory is taken first.
+fn one_event(machine: &mut Machine, seat: Seat, event: Event) -> Result<Reply, NoMemory>
+    ensures setup { machine.new.setup ≡ machine.old.setup }
+    ensures legal { IsLegal machine.old.setup machine.old.entries }
+    ensures reply { IfOk result (λ r. r ≡ reply_at machine.old.setup machine.old.entries seat event) }
+    ensures entries { IfOk result (λ r. machine.new.entries ≡ with_entry machine.old.entries seat event r) }
+    ensures rooms { IfOk result (λ r. machine.new.rooms ≡ rooms_after seat r machine.old.rooms) }
+    ensures refused { OnErr result (machine.new.entries ≡ machine.old.entries) }
+    ensures over { StaysOver (reply_at machine.old.setup machine.old.entries) (reply_at machine.new.setup machine.new.entries) }
+{
+    over_stays_over();
+    machine.trail();
+    machine.reserve(seat, &event)?;
+    Ok(machine.apply(seat, event))
+}
+
+impl Engine for Machine {
+    ghost setup = { λ m. m.setup };
+
+    ghost entries = { λ m. m.entries };
+
+    fn next(&mut self, p: u32) -> Result<Reply, NoMemory> {
+        turns_go_to_living_threads();
+        turns_make_run();
+        one_event(self, Seat::Proc(p), Event::Next)
+    }
+
+    fn call(&mut self, p: u32, t: Tid, request: Request) -> Result<Reply, NoMemory> {
+        running_calls_are_served();
+        answered_threads_run_on();
+        one_event(self, Seat::Proc(p), Event::Call(t, request))
+    }
+
+    fn take(&mut self, k: u32) -> Result<Option<(IoCall, Room<u8>)>, NoMemory> {
+        posted_calls_are_taken();
+        taken_calls_are_begun();
+        self.files();
+        match one_event(self, Seat::Io(k), Event::IoTake)? {
+            Reply::Took(call) => {
+                let room = self.room(k);
+                Ok(Some((call, room)))
+            }
+            _ => Ok(None),
+        }
+    }
+
+    fn did(&mut self, k: u32, effect: Effect) {
+        fitting_effects_are_noted();
+        self.apply(Seat::Io(k), Event::IoDid(effect));
+    }
+}
