@@ -53,10 +53,8 @@ fn call<R: Threads + Wait + Abort + Sync>(
 /// Bytes that differ from place to place.
 fn pattern(alloc: Global, len: usize) -> Result<Vec<u8>, Fail> {
     let mut bytes = Vec::new(alloc);
-    let mut next = 0u8;
-    for _ in 0..len {
-        bytes.push(next)?;
-        next = if next == 250 { 0 } else { next + 1 };
+    for i in 0..len {
+        bytes.push((i % 251) as u8)?;
     }
     Ok(bytes)
 }
