@@ -207,23 +207,32 @@ fn a_file_that_cannot_be_opened_or_closed_is_told(rt: HostRuntime) -> Result<(),
     Ok(())
 }
 
+/// Calls the program with words that are no command.
+fn expect_usage<R: Threads + Wait + Abort + Sync>(
+    rt: &R,
+    alloc: Global,
+    texts: &[&str],
+) -> Result<(), Fail> {
+    let mut files = copy_of(alloc, 6)?;
+    let left = call(rt, alloc, &mut files, texts)?;
+    assert_eq!(rt; left.status, 2);
+    assert_eq!(rt;
+        left.err.as_slice(),
+        b"p9pipe: usage: run [-p N] [-s START] [-t TRAIL] FILE | bulk N | check FILE | replay FILE TRAIL\n".as_slice()
+    );
+    assert!(rt; left.trail.entries.as_slice().is_empty() && files.get(b"out.txt").is_none());
+    Ok(())
+}
+
 #[test]
 fn other_words_and_other_texts_are_refused(rt: HostRuntime) -> Result<(), Fail> {
     let alloc = rt.alloc();
-    let usage: &[u8] =
-        b"p9pipe: usage: run [-p N] [-s START] [-t TRAIL] FILE | bulk N | check FILE | replay FILE TRAIL\n";
-    let mut files = copy_of(alloc, 6)?;
-    for texts in [
-        [].as_slice(),
-        ["run"].as_slice(),
-        ["run", "-p"].as_slice(),
-        ["check", "copy.p9"].as_slice(),
-        ["run", "copy.p9", "copy.p9"].as_slice(),
-    ] {
-        let left = call(&rt, alloc, &mut files, texts)?;
-        assert_eq!(rt; left.status, 2);
-        assert_eq!(rt; left.err.as_slice(), usage);
-    }
+    expect_usage(&rt, alloc, &[])?;
+    expect_usage(&rt, alloc, &["run"])?;
+    expect_usage(&rt, alloc, &["run", "-p"])?;
+    expect_usage(&rt, alloc, &["check", "copy.p9"])?;
+    expect_usage(&rt, alloc, &["run", "copy.p9", "copy.p9"])?;
+    let mut files = MemFiles::new(alloc);
     lasts(files.add(b"f", lasts(Msg::from_slice(alloc, b"chan c 0\n"))?))?;
     let left = call(&rt, alloc, &mut files, &["run", "f"])?;
     assert_eq!(rt; left.status, 2);
@@ -231,7 +240,6 @@ fn other_words_and_other_texts_are_refused(rt: HostRuntime) -> Result<(), Fail> 
         left.err.as_slice(),
         b"p9pipe: f:1: not built yet\n".as_slice()
     );
-    assert!(rt; files.get(b"out.txt").is_none());
     Ok(())
 }
 
