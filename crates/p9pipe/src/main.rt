@@ -4,15 +4,22 @@
 use p9_outside::{RealFiles, StdSink, StdSource};
 use p9_run::pipe_main;
 use std::process::ExitCode;
+use std::rt::Env;
 use std::{env, io};
 
-fn main(rt: HostRuntime) -> io::Result<ExitCode> {
+/// The words after the program's name.
+fn words<R: Env + AllocGlobal>(rt: &R) -> io::Result<Vec<String>> {
+    Ok(env::args(rt)?.skip(1).collect(rt.alloc())?)
+}
+
+fn main(rt: HostRuntime) -> ExitCode {
     let alloc = rt.alloc();
-    let words = env::args(&rt)?.skip(1).collect::<Vec<String>>(alloc)?;
+    // Words that are no text are no command.
+    let words = words(&rt).unwrap_or(Vec::new(alloc));
     let mut files = RealFiles::new(&rt);
     let input = StdSource::new(rt.stdin());
     let out = StdSink::new(rt.stdout());
     let mut err = StdSink::new(rt.stderr());
     let outcome = pipe_main(&rt, alloc, &words, &mut files, input, out, &mut err);
-    Ok(ExitCode::from(outcome.status))
+    ExitCode::from(outcome.status)
 }
