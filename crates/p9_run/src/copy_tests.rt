@@ -157,9 +157,12 @@ fn a_copy_is_whole_or_told(rt: HostRuntime) -> Result<(), Fail> {
     Ok(())
 }
 
-#[test]
-fn a_file_that_cannot_be_opened_or_closed_is_told(rt: HostRuntime) -> Result<(), Fail> {
-    let alloc = rt.alloc();
+/// A copy of so many bytes in which a file can't be opened or closed.
+fn expect_unopened<R: Threads + Wait + Abort + Sync>(
+    rt: &R,
+    alloc: Global,
+    len: usize,
+) -> Result<(), Fail> {
     for (path, fail, message) in [
         (
             b"in.txt".as_slice(),
@@ -182,19 +185,19 @@ fn a_file_that_cannot_be_opened_or_closed_is_told(rt: HostRuntime) -> Result<(),
             b"p9pipe: copy.p9: read failed\n".as_slice(),
         ),
     ] {
-        let trail = expect_copy(&rt, alloc, 6, Some((path, fail)), 1, message, None)?;
+        let trail = expect_copy(rt, alloc, len, Some((path, fail)), 1, message, None)?;
         assert!(rt; trail.entries.as_slice().is_empty());
     }
-    let trail = expect_copy(
-        &rt,
-        alloc,
-        6,
-        Some((b"out.txt", PathFail::Close)),
-        1,
-        b"p9pipe: out.txt: close failed\n",
-        None,
-    )?;
-    assert_eq!(rt; moved(&trail), (6, 6, 0));
+    let told = b"p9pipe: out.txt: close failed\n";
+    let plan = Some((b"out.txt".as_slice(), PathFail::Close));
+    let trail = expect_copy(rt, alloc, len, plan, 1, told, None)?;
+    assert_eq!(rt; moved(&trail), (len, len, 0));
+    Ok(())
+}
+
+#[test]
+fn a_missing_in_file_is_told(rt: HostRuntime) -> Result<(), Fail> {
+    let alloc = rt.alloc();
     let mut files = MemFiles::new(alloc);
     lasts(files.add(b"copy.p9", lasts(Msg::from_slice(alloc, TEXT))?))?;
     let left = call(&rt, alloc, &mut files, &["run", "copy.p9"])?;
@@ -249,6 +252,7 @@ fn expect_each_failure<R: Threads + Wait + Abort + Sync>(
     alloc: Global,
     len: usize,
 ) -> Result<(), Fail> {
+    expect_unopened(rt, alloc, len)?;
     let trail = expect_copy(rt, alloc, len, None, 0, b"", Some(len))?;
     assert_eq!(rt; moved(&trail), (len, len, 0));
     let blocks = len / 8192;
