@@ -3,6 +3,7 @@
 
 use p9_outside::{RealFiles, StdSink, StdSource};
 use p9_run::pipe_main;
+use std::io::ErrorKind;
 use std::process::ExitCode;
 use std::rt::Env;
 use std::{env, io};
@@ -14,8 +15,15 @@ fn words<R: Env + AllocGlobal>(rt: &R) -> io::Result<Vec<String>> {
 
 fn main(rt: HostRuntime) -> ExitCode {
     let alloc = rt.alloc();
-    // Words that are no text are no command.
-    let words = words(&rt).unwrap_or(Vec::new(alloc));
+    let words = match words(&rt) {
+        Ok(words) => words,
+        Err(error) if error.kind() == ErrorKind::OutOfMemory => {
+            let _ = eprintln!(rt; "p9pipe: out of memory");
+            return ExitCode::from(4);
+        }
+        // Words that are no text are no command.
+        Err(_) => Vec::new(alloc),
+    };
     let mut files = RealFiles::new(&rt);
     let input = StdSource::new(rt.stdin());
     let out = StdSink::new(rt.stdout());
