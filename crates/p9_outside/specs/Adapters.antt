@@ -1,7 +1,10 @@
--- What the adapters over readers, writers and the files of the system stand on, and how often each has failed.
+-- What the adapters over readers, writers and the files of the system stand on, how often each has failed, and what
+-- they count of what was done.
 use Rattle.std.specs.Prelude.{ℕ}
 use Rattle.p9_outside.specs.declared.real.std_source.StdSource.{StdSource}
 use Rattle.p9_outside.specs.declared.real.std_sink.StdSink.{StdSink}
+use Rattle.p9_outside.specs.declared.real.closings.Closings.{Closings}
+use Rattle.p9_outside.specs.declared.real.file_sink.FileSink.{FileSink}
 use Rattle.p9_outside.specs.declared.real.files.RealFiles.{RealFiles}
 
 abbrev pub reader_of : {R : Type 0} → StdSource R → R
@@ -16,6 +19,25 @@ writer_of s = s.inner
 abbrev pub writer_faults : {W : Type 0} → StdSink W → ℕ
 writer_faults s = s.faults
 
+-- how many bytes the writer has taken, by what its writes answered
+abbrev pub writer_taken : {W : Type 0} → StdSink W → ℕ
+writer_taken s = s.taken
+
+-- the same of a file of the system that is written, D being the folders of the runtime R
+abbrev pub file_faults : {R D : Type 0} → FileSink R D → ℕ
+file_faults s = writer_faults s.sink
+
+abbrev pub file_taken : {R D : Type 0} → FileSink R D → ℕ
+file_taken s = writer_taken s.sink
+
+-- how many files have been closed
+abbrev pub closed_count : Closings → ℕ
+closed_count c = c.count
+
 -- how many calls on the files of the system have failed
 abbrev pub real_faults : {R : Type 0} → RealFiles R → ℕ
 real_faults f = f.faults
+
+-- how many of them have closed a file
+abbrev pub real_closed : {R : Type 0} → RealFiles R → ℕ
+real_closed f = closed_count f.closings

@@ -1,6 +1,7 @@
 pub mod Adapters
 pub mod Causes
 pub mod Contents
+pub mod Counts
 pub mod FileServices
 pub mod Memory
 pub mod MemoryFiles

@@ -1,3 +1,4 @@
+mod closings;
 mod file_sink;
 mod files;
 mod opening;

@@ -145,6 +145,7 @@ fn clear(rt: &HostRuntime, paths: &[&str]) {
 fn std_readers_and_writers_are_sources_and_sinks(rt: HostRuntime) -> Result<(), Fail> {
     let mut sink = StdSink::new(File::create(&rt, "std.txt")?);
     assert_eq!(rt; drain(&mut sink, b"six by"), 6);
+    assert_eq!(rt; sink.taken(), 6);
     let _file = sink.into_inner();
     let mut source = StdSource::new(File::open(&rt, "std.txt")?);
     let mut buf = [0; 8];
@@ -155,6 +156,7 @@ fn std_readers_and_writers_are_sources_and_sinks(rt: HostRuntime) -> Result<(), 
     assert!(rt; folder.read(&mut buf).is_err());
     let mut full = StdSink::new(File::create(&rt, "/dev/full")?);
     assert_eq!(rt; drain(&mut full, b"six by"), 0);
+    assert_eq!(rt; full.taken(), 0);
     clear(&rt, &["std.txt"]);
     Ok(())
 }
@@ -167,6 +169,9 @@ fn write_through(rt: &HostRuntime, path: &[u8]) -> Result<(), Fail> {
         return Err(Fail::from("not written"));
     }
     opens(files.close(path, sink))?;
+    if files.closed() != 1 {
+        return Err(Fail::from("not counted"));
+    }
     Ok(())
 }
 
@@ -178,6 +183,7 @@ fn real_files_are_replaced_only_when_whole(rt: HostRuntime) -> Result<(), Fail> 
     fs::set_permissions(&rt, "out.txt", fs::Permissions::from_mode(0o640))?;
     let mut sink = opens(files.sink(alloc, b"out.txt"))?;
     assert_eq!(rt; drain(&mut sink, b"new"), 3);
+    assert_eq!(rt; sink.taken(), 3);
     assert_eq!(rt; fs::read_to_string(&rt, "out.txt")?.as_str(), "old");
     assert!(rt; fs::exists(&rt, ".out.txt.p9pipe-0.tmp")?);
     {
@@ -185,7 +191,9 @@ fn real_files_are_replaced_only_when_whole(rt: HostRuntime) -> Result<(), Fail> 
         assert!(rt; fs::exists(&rt, ".out.txt.p9pipe-1.tmp")?);
     }
     assert!(rt; !fs::exists(&rt, ".out.txt.p9pipe-1.tmp")?);
+    assert_eq!(rt; files.closed(), 0);
     opens(files.close(b"out.txt", sink))?;
+    assert_eq!(rt; files.closed(), 1);
     assert_eq!(rt; fs::read_to_string(&rt, "out.txt")?.as_str(), "new");
     assert!(rt; !fs::exists(&rt, ".out.txt.p9pipe-0.tmp")?);
     assert_eq!(rt;

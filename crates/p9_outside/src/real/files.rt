@@ -1,7 +1,10 @@
-ghost use Rattle.std.specs.Prelude.{◌≡◌, ◌≤◌, None};
-ghost use Rattle.p9_outside.specs.Adapters.{real_faults};
+ghost use Rattle.std.specs.Prelude.{◌≡◌, ◌≤◌, None, IsErr, IfOk, OnOk, OnErr};
+ghost use Rattle.p9_outside.specs.Adapters.{real_faults, real_closed, file_taken};
 ghost use Rattle.p9_outside.specs.Causes.{Rose};
+ghost use Rattle.p9_outside.specs.Contents.{Stay, Opens, IsFresh, Puts};
+ghost use Rattle.p9_outside.specs.Counts.{raised};
 
+use crate::real::closings::Closings;
 use crate::real::opening::{open_sink, open_source};
 use crate::{FileSink, Files, FilesFault, StdSource};
 use std::alloc::Global;
@@ -9,7 +12,8 @@ use std::fs::File;
 use std::io::ErrorKind;
 use std::{io, rt};
 
-/// The files of the system, by paths that are UTF-8. They tell no contents.
+/// The files of the system, by paths that are UTF-8. They tell no contents, but count the files that were
+/// closed.
 ///
 /// An output file keeps its old contents until its sink is closed, also where the run is killed, and
 /// keeps its mode. A link is followed and stays a link. A path that is no regular file, as a device or a
@@ -18,18 +22,35 @@ use std::{io, rt};
 pub struct RealFiles<'a, R> {
     rt: &'a R,
     faults: u64,
+    closings: Closings,
 }
 
 impl<'a, R: rt::Files<File = File>> RealFiles<'a, R> {
-    /// The files of this runtime, with no fault so far.
+    /// The files of this runtime, with no fault so far, and none closed.
     pub fn new(rt: &'a R) -> RealFiles<'a, R>
-        ensures { real_faults result ≡ 0 }
+        ensures faults { real_faults result ≡ 0 }
+        ensures closed { real_closed result ≡ 0 }
     {
-        RealFiles { rt, faults: 0 }
+        RealFiles {
+            rt,
+            faults: 0,
+            closings: Closings::new(),
+        }
+    }
+
+    /// How many files have been closed: how many calls of [`Files::close`] answered `Ok`. At the greatest
+    /// u64 the count stands.
+    pub fn closed(&self) -> u64
+        ensures { result ≡ real_closed self.now }
+    {
+        self.closings.count()
     }
 
     /// What an outcome is told as. An error but want of memory is counted.
     fn told<T: Drop>(&mut self, outcome: io::Result<T>) -> Result<T, FilesFault>
+        ensures value { IfOk result (λ v. outcome ≡ Ok v) }
+        ensures error { OnErr result (IsErr outcome) }
+        ensures closed { real_closed self.new ≡ real_closed self.old }
         ensures later { real_faults self.old ≤ real_faults self.new }
         ensures fault { result ≡ Err FilesFault.Failed → Rose (real_faults self.old) (real_faults self.new) }
     {
@@ -53,18 +74,45 @@ impl<'a, R: rt::Files<File = File> + Sync> Files for RealFiles<'a, R> {
 
     ghost faults = { λ f. real_faults f };
 
-    fn source(&mut self, _alloc: Global, path: &[u8]) -> Result<StdSource<File>, FilesFault> {
+    fn source(&mut self, _alloc: Global, path: &[u8]) -> Result<StdSource<File>, FilesFault>
+        // No contents are told, so that the first two of the trait's clauses say nothing.
+        ensures contents { Stay None None }
+        ensures opens { IfOk result (λ s. Opens None path.now None) }
+        ensures later { real_faults self.old ≤ real_faults self.new }
+        ensures failed { result ≡ Err FilesFault.Failed → Rose (real_faults self.old) (real_faults self.new) }
+
+        ensures closed { real_closed self.new ≡ real_closed self.old }
+    {
         let opened = open_source(self.rt, path);
         self.told(opened)
     }
 
-    fn sink(&mut self, alloc: Global, path: &[u8]) -> Result<FileSink<'a, R>, FilesFault> {
+    fn sink(&mut self, alloc: Global, path: &[u8]) -> Result<FileSink<'a, R>, FilesFault>
+        // No contents are told, so that the first two of the trait's clauses say nothing.
+        ensures contents { Stay None None }
+        ensures fresh { IfOk result (λ s. IsFresh None None) }
+        ensures later { real_faults self.old ≤ real_faults self.new }
+        ensures failed { result ≡ Err FilesFault.Failed → Rose (real_faults self.old) (real_faults self.new) }
+
+        ensures taken { IfOk result (λ s. file_taken s ≡ 0) }
+        ensures closed { real_closed self.new ≡ real_closed self.old }
+    {
         let opened = open_sink(self.rt, alloc, path);
         self.told(opened)
     }
 
-    fn close(&mut self, _path: &[u8], dst: FileSink<'a, R>) -> Result<(), FilesFault> {
-        let finished = dst.finish();
+    /// [`RealFiles::closed`] rises by 1 where the answer is `Ok`, and stays where it is an error.
+    fn close(&mut self, _path: &[u8], dst: FileSink<'a, R>) -> Result<(), FilesFault>
+        // No contents are told, so that the first two of the trait's clauses say nothing.
+        ensures ok { OnOk result (Puts None None _path.now None) }
+        ensures err { OnErr result (Stay None None) }
+        ensures later { real_faults self.old ≤ real_faults self.new }
+        ensures failed { result ≡ Err FilesFault.Failed → Rose (real_faults self.old) (real_faults self.new) }
+
+        ensures closed { OnOk result (real_closed self.new ≡ raised (real_closed self.old) 1) }
+        ensures unclosed { OnErr result (real_closed self.new ≡ real_closed self.old) }
+    {
+        let finished = dst.finish(&mut self.closings);
         self.told(finished)
     }
 }

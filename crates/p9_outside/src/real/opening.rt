@@ -1,3 +1,6 @@
+ghost use Rattle.std.specs.Prelude.{◌≡◌, IfOk};
+ghost use Rattle.p9_outside.specs.Adapters.{file_taken};
+
 use crate::real::temporary::Temporary;
 use crate::{FileSink, StdSource};
 use std::alloc::Global;
@@ -35,7 +38,9 @@ pub(crate) fn open_sink<'a, R: Files<File = File>>(
     rt: &'a R,
     alloc: Global,
     path: &[u8],
-) -> io::Result<FileSink<'a, R>> {
+) -> io::Result<FileSink<'a, R>>
+    ensures { IfOk result (λ s. file_taken s ≡ 0) }
+{
     let path = path_text(path)?;
     match fs::metadata(rt, path) {
         Ok(old) if old.is_file() => replacing(rt, alloc, path, &old),
@@ -45,7 +50,9 @@ pub(crate) fn open_sink<'a, R: Files<File = File>>(
     }
 }
 
-fn in_place<'a, R: Files<File = File>>(rt: &'a R, path: &str) -> io::Result<FileSink<'a, R>> {
+fn in_place<'a, R: Files<File = File>>(rt: &'a R, path: &str) -> io::Result<FileSink<'a, R>>
+    ensures { IfOk result (λ s. file_taken s ≡ 0) }
+{
     let file = OpenOptions::new().write(true).open(rt, path)?;
     Ok(FileSink::new(rt, file, None))
 }
@@ -57,7 +64,9 @@ fn replacing<'a, R: Files<File = File>>(
     alloc: Global,
     path: &str,
     old: &Metadata,
-) -> io::Result<FileSink<'a, R>> {
+) -> io::Result<FileSink<'a, R>>
+    ensures { IfOk result (λ s. file_taken s ≡ 0) }
+{
     let _can_be_written = OpenOptions::new().write(true).open(rt, path)?;
     let target = rt.canonicalize(alloc, path)?.into_string();
     let (file, temporary) = Temporary::beside(rt, alloc, target, true)?;
@@ -71,7 +80,9 @@ fn making<'a, R: Files<File = File>>(
     rt: &'a R,
     alloc: Global,
     path: &str,
-) -> io::Result<FileSink<'a, R>> {
+) -> io::Result<FileSink<'a, R>>
+    ensures { IfOk result (λ s. file_taken s ≡ 0) }
+{
     let target = followed(rt, alloc, path)?;
     let (file, temporary) = Temporary::beside(rt, alloc, target, false)?;
     Ok(FileSink::new(rt, file, Some(temporary)))

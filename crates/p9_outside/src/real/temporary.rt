@@ -1,3 +1,8 @@
+ghost use Rattle.std.specs.Prelude.{◌≡◌, OnOk, OnErr};
+ghost use Rattle.p9_outside.specs.Adapters.{closed_count};
+ghost use Rattle.p9_outside.specs.Counts.{raised};
+
+use crate::real::closings::Closings;
 use std::alloc::Global;
 use std::fs::{File, OpenFile, OpenOptions};
 use std::io::ErrorKind;
@@ -42,9 +47,17 @@ impl Temporary {
     }
 
     /// Puts the file in the place of the target. Where there was an old file the new one is on the disk
-    /// first, so that a power cut loses neither.
-    pub(crate) fn take_place<R: Files<File = File>>(self, rt: &R, file: &File) -> io::Result<()> {
-        match self.moved(rt, file) {
+    /// first, so that a power cut loses neither. Where the file can't take the place it is removed.
+    pub(crate) fn take_place<R: Files<File = File>>(
+        self,
+        rt: &R,
+        file: File,
+        closings: &mut Closings,
+    ) -> io::Result<()>
+        ensures taken { OnOk result (closed_count closings.new ≡ raised (closed_count closings.old) 1) }
+        ensures removed { OnErr result (closed_count closings.new ≡ closed_count closings.old) }
+    {
+        match self.moved(rt, &file, closings) {
             Ok(()) => Ok(()),
             Err(error) => {
                 self.remove(rt);
@@ -53,11 +66,19 @@ impl Temporary {
         }
     }
 
-    fn moved<R: Files<File = File>>(&self, rt: &R, file: &File) -> io::Result<()> {
+    fn moved<R: Files<File = File>>(
+        &self,
+        rt: &R,
+        file: &File,
+        closings: &mut Closings,
+    ) -> io::Result<()>
+        ensures moved { OnOk result (closed_count closings.new ≡ raised (closed_count closings.old) 1) }
+        ensures stays { OnErr result (closed_count closings.new ≡ closed_count closings.old) }
+    {
         if self.replaces {
             file.sync_all()?;
         }
-        fs::rename(rt, self.name.as_str(), self.target.as_str())
+        closings.rename(rt, self.name.as_str(), self.target.as_str())
     }
 
     /// Removes the file. Where that fails nobody is told.

@@ -1,0 +1,51 @@
+ghost use Rattle.std.specs.Prelude.{◌≡◌, OnOk, OnErr};
+ghost use Rattle.p9_outside.specs.Counts.{raised};
+
+use std::fs::File;
+use std::rt::Files;
+use std::{fs, io};
+
+/// How many files have been closed. At the greatest u64 the count stands.
+///
+/// It rises in two ways alone: where the system has given a temporary file the name of its target, and
+/// where a file that was written in place is let go.
+#[derive(Drop)]
+pub(crate) struct Closings {
+    count: u64,
+}
+
+impl Closings {
+    ghost use Rattle.p9_outside.specs.Adapters.{closed_count};
+
+    /// No file so far.
+    pub(crate) fn new() -> Closings
+        ensures { closed_count result ≡ 0 }
+    {
+        Closings { count: 0 }
+    }
+
+    /// How many there were.
+    pub(crate) fn count(&self) -> u64
+        ensures { result ≡ closed_count self.now }
+    {
+        self.count
+    }
+
+    /// Lets go of a file that was written in place.
+    pub(crate) fn let_go(&mut self, file: File)
+        ensures { closed_count self.new ≡ raised (closed_count self.old) 1 }
+    {
+        drop(file);
+        self.count = self.count.saturating_add(1);
+    }
+
+    /// Gives a file another name. A file that has the name is replaced.
+    pub(crate) fn rename<R: Files>(&mut self, rt: &R, from: &str, to: &str) -> io::Result<()>
+        ensures renamed { OnOk result (closed_count self.new ≡ raised (closed_count self.old) 1) }
+        ensures stays { OnErr result (closed_count self.new ≡ closed_count self.old) }
+    {
+        fs::rename(rt, from, to)?;
+        self.count = self.count.saturating_add(1);
+        Ok(())
+    }
+}
