@@ -1,5 +1,5 @@
 -- A machine keeps what it keeps over an event.
-use Rattle.std.proofs.Common.{◌≡◌, ℕ, ◌-◌, ◌<◌, ◌≤◌, ◌^◌, Bool, true, false, not, ◌||◌, List, length, Option, Some, None, IfSome, refl, sym, ap, subst, ◌∙◌, arith}
+use Rattle.std.proofs.Common.{◌≡◌, ℕ, ◌-◌, ◌<◌, ◌≤◌, ◌^◌, Bool, true, false, not, ◌||◌, List, [], length, Option, Some, None, IfSome, refl, sym, ap, subst, ◌∙◌, arith}
 use Rattle.std.specs.Prelude.{if◌then◌else◌, slice_get, nat_lt}
 use Rattle.std.specs.List.{list_any}
 use Rattle.p9_word.specs.declared.answer.IoAnswer.{IoAnswer}
@@ -17,27 +17,34 @@ use Rattle.p9_manual.specs.declared.state.Ioproc.TheVariants.{Unmade, Idle, Post
 use Rattle.p9_manual.specs.Effects.{message_length}
 use Rattle.p9_manual.specs.Ioprocs.{take_call, did_call, fits, answered, effect_answer, with_ioproc}
 use Rattle.p9_manual.specs.Places.{lives}
+use Rattle.p9_manual.specs.Sound.{IsSound}
 use Rattle.p9_manual.specs.State.{State, Outcome, by_id}
 use Rattle.p9_manual.specs.Step.{step, makes_entry}
 use Rattle.p9_manual.specs.History.{state_after, IsLegal, with_entry}
 use Rattle.p9_machine.specs.declared.board.Board.{Board}
 use Rattle.p9_machine.specs.declared.reserve.Reserved.{Reserved}
 use Rattle.p9_machine.specs.declared.machine.Machine.TheInside.{Inside}
-use Rattle.p9_machine.specs.Board.{state_of, calls_of, settled, with_answer, Follows}
+use Rattle.p9_sched.specs.Schedule.{Schedule}
+use Rattle.p9_machine.specs.Board.{state_of, calls_of, settled, with_answer, Stands, AreParts, IsUsable, Follows}
 use Rattle.p9_machine.specs.Calls.{begun_call, begun_count, call_length_of}
 use Rattle.p9_machine.specs.Copies.{IsForEvent, IsTold}
 use Rattle.p9_machine.specs.Ready.{HasBuffersFor}
 use Rattle.p9_machine.specs.Kept.{IsKept, HasMemoryIfAny}
 use Rattle.p9_machine.proofs.Laws.{GoesOn, goes_on}
 
--- the same, of a setup that is the same
-pub goes_on_at : (S T : Setup) (H K : List Entry) (seat : Seat) (event : Event) (r : Reply) (s t : State) → T ≡ S → s ≡ state_after S H → IsLegal S H → s.entries ≡ length H → r ≡ (step S seat event s).reply → t ≡ settled (makes_entry r) s (step S seat event s).state → K ≡ with_entry H seat event r → GoesOn T K t
-goes_on_at S T H K seat event r s t same e legal counted re te ke =
-    subst (λ (U : Setup). GoesOn U K t) (sym same) (goes_on S H K seat event r s t e legal counted re te ke)
+-- the board stands for the state after the history with the event
+pub stands_on : (S T : Setup) (H K : List Entry) (seat : Seat) (event : Event) (r : Reply) (old new : Board) → T ≡ S → Stands old (state_after S H) → IsLegal S H → (state_after S H).entries ≡ length H → (r ≡ (step S seat event (state_of old (state_after S H).line)).reply) → Stands new (settled (makes_entry r) (state_of old (state_after S H).line) (step S seat event (state_of old (state_after S H).line)).state) → K ≡ with_entry H seat event r → GoesOn T K (state_after T K) × Stands new (state_after T K)
+stands_on S T H K seat event r old new same stands legal counted re te ke =
+    let re' : r ≡ (step S seat event (state_after S H)).reply = subst (λ (s : State). r ≡ (step S seat event s).reply) stands.state re in
+    let te' = subst (λ (s : State). Stands new (settled (makes_entry r) s (step S seat event s).state)) stands.state te in
+    let on = goes_on S H K seat event r (state_after S H) _ refl legal counted re' refl ke in
+    let at : Stands new (state_after S K) = subst (λ (s : State). Stands new s) on.state_is te' in
+    let go : GoesOn S K (state_after S K) = subst (λ (s : State). GoesOn S K s) on.state_is on in
+    subst (λ (U : Setup). GoesOn U K (state_after U K) × Stands new (state_after U K)) (sym same) (go, at)
 
 -- outcomes that are the same are followed alike
-pub follows_by : (old new : Board) (seat : Seat) (r : Reply) (o p : Outcome) → o ≡ p → Follows old seat p r new → Follows old seat o r new
-follows_by old new seat r o p e h = subst (λ (q : Outcome). Follows old seat q r new) (sym e) h
+pub follows_by : (old new : Board) (line : List ℕ) (seat : Seat) (r : Reply) (o p : Outcome) → o ≡ p → Follows old line seat p r new → Follows old line seat o r new
+follows_by old new line seat r o p e h = subst (λ (q : Outcome). Follows old line seat q r new) (sym e) h
 
 if_false : {A : Type 0} (b : Bool) (x y : A) → b ≡ false → (if b then x else y) ≡ y
 if_false true x y e = cc
@@ -73,32 +80,60 @@ short_by true (Some Closed) h = tt
 pub short_begun : (k : ℕ) (ios : List Ioproc) → call_length_of (slice_get ios (k - 1)) ≤ 4294967295 → IfSome (begun_call (by_id ios k)) (λ call. message_length call < 2 ^ 32)
 short_begun k ios h = short_by (nat_lt 0 k) (slice_get ios (k - 1)) h
 
-memory_with : (a b : Board) (es : Filled Entry) (r : Option Reserved) → state_of b ≡ state_of a → b.line ≡ a.line → b.waits ≡ a.waits → HasMemoryIfAny a es r → HasMemoryIfAny b es r
-memory_with a b es None e l w h = tt
-memory_with a b es (Some r) e l w h =
+memory_with : (a b : Board) (es : Filled Entry) (r : Option Reserved) → b.sched ≡ a.sched → b.waits ≡ a.waits → state_of b [] ≡ state_of a [] → HasMemoryIfAny a es r → HasMemoryIfAny b es r
+memory_with a b es None sch w e h = tt
+memory_with a b es (Some r) sch w e h =
     let same : calls_of b ≡ calls_of a = ap (λ (s : State). begun_count s.ioprocs) e in
-    let line = h.0.room.line in
     let spare = h.1.spare in (
       record {
-        room = record { line = rw (l, w) (omega arith); waits = rw w h.0.room.waits };
+        room = record { waits = rw w h.0.room.waits; rooms = rw sch h.0.room.rooms };
         buffers = subst (λ (ios : List Ioproc). HasBuffersFor r.seat r.event ios r.spares) (sym (ap (λ (s : State). s.ioprocs) e)) h.0.buffers;
         extra = subst (λ (s : State). IsForEvent r.seat r.event s r.spares.extra) (sym e) h.0.extra;
-        told = subst (λ (s : State). IsTold r.seat r.event s r.told) (sym e) h.0.told;
+        told = subst (λ (s : Schedule). IsTold r.seat r.event (state_of b []) s r.told) (sym sch) (subst (λ (s : State). IsTold r.seat r.event s a.sched r.told) (sym e) h.0.told);
       },
       record { spare = omega arith },
     )
 
 -- a machine keeps what it keeps with a board that stands for the same
-pub kept_with : (m : Inside) (b : Board) → IsKept m → state_of b ≡ state_of m.board → b.setup ≡ m.board.setup → b.line ≡ m.board.line → b.waits ≡ m.board.waits → IsKept (record m { board = b })
-kept_with m b k e same l w =
-    let calls : calls_of b ≡ calls_of m.board = ap (λ (s : State). begun_count s.ioprocs) e in
+pub kept_with : (m : Inside) (b : Board) → IsKept m → b.sched ≡ m.board.sched → b.waits ≡ m.board.waits → b.setup ≡ m.board.setup → ((line : List ℕ) → state_of b line ≡ state_of m.board line) → IsKept (record m { board = b })
+kept_with m b k sch w same e =
+    let calls : calls_of b ≡ calls_of m.board = ap (λ (s : State). begun_count s.ioprocs) (e []) in
     let spare = k.spare in
+    let after = state_after m.board.setup m.trail.entries.items in
+    let stands : Stands b after = record { state = e after.line ∙ k.board.state; parts = rw sch k.board.parts } in
     record {
-      board = e ∙ (k.board ∙ ap (λ (S : Setup). state_after S m.trail.entries.items) (sym same));
+      valid = rw same k.valid;
+      board = subst (λ (S : Setup). Stands b (state_after S m.trail.entries.items)) (sym same) stands;
+      places = rw (sch, same) k.places;
       legal = subst (λ (S : Setup). IsLegal S m.trail.entries.items) (sym same) k.legal;
-      counted = ap (λ (s : State). s.entries) e ∙ k.counted;
+      counted = ap (λ (s : State). s.entries) (e []) ∙ k.counted;
       procs = k.procs ∙ ap (λ (S : Setup). S.procs) (sym same);
       start = k.start ∙ ap (λ (S : Setup). S.start) (sym same);
       spare = omega arith;
-      memory = memory_with m.board b m.trail.entries m.reserved e l w k.memory;
+      memory = memory_with m.board b m.trail.entries m.reserved sch w (e []) k.memory;
+    }
+
+-- with the line of the state after its history a machine's board stands for a sound state
+pub usable_now : (m : Inside) → IsKept m → IsSound m.board.setup (state_after m.board.setup m.trail.entries.items) → IsUsable m.board (state_after m.board.setup m.trail.entries.items).line
+usable_now m k sound = record {
+  parts = k.board.parts;
+  sound = subst (λ (s : State). IsSound m.board.setup s) (sym k.board.state) sound;
+  places = k.places;
+}
+
+-- a machine keeps what it keeps with more memory
+pub kept_moved : (m : Inside) (b : Board) (es : Filled Entry) (r : Option Reserved) → IsKept m → ((line : List ℕ) → state_of b line ≡ state_of m.board line) → ((line : List ℕ) → AreParts m.board.sched line → AreParts b.sched line) → length b.sched.lines ≡ length m.board.sched.lines → b.setup ≡ m.board.setup → es.items ≡ m.trail.entries.items → calls_of b ≤ es.spare → HasMemoryIfAny b es r → IsKept (record m { board = b; trail = record m.trail { entries = es }; reserved = r })
+kept_moved m b es r k e parts places same items spare memory =
+    let after = state_after m.board.setup m.trail.entries.items in
+    let stands : Stands b after = record { state = e after.line ∙ k.board.state; parts = parts after.line k.board.parts } in
+    record {
+      valid = rw same k.valid;
+      board = rw items (subst (λ (S : Setup). Stands b (state_after S m.trail.entries.items)) (sym same) stands);
+      places = rw same (places ∙ k.places);
+      legal = rw items (subst (λ (S : Setup). IsLegal S m.trail.entries.items) (sym same) k.legal);
+      counted = ap (λ (s : State). s.entries) (e []) ∙ (k.counted ∙ ap (λ (xs : List Entry). length xs) (sym items));
+      procs = k.procs ∙ ap (λ (S : Setup). S.procs) (sym same);
+      start = k.start ∙ ap (λ (S : Setup). S.start) (sym same);
+      spare = spare;
+      memory = memory;
     }

@@ -1,6 +1,11 @@
 pub mod Moves
+pub mod Parts
 pub mod Laws
 pub mod Places
-pub mod Told
 pub mod Keeps
+pub mod Told
+pub mod Asked
+pub mod Making
+pub mod Waking
 pub mod Turning
+pub mod Beginning

@@ -6,7 +6,7 @@ use Rattle.p9_word.specs.declared.io_call.IoCall.{IoCall}
 use Rattle.p9_manual.specs.declared.state.Ioproc.{Ioproc}
 use Rattle.p9_manual.specs.declared.state.Ioproc.TheVariants.{Unmade, Idle, Posted, Begun, Closed}
 use Rattle.p9_manual.specs.State.{changed}
-use Rattle.p9_manual.specs.Threads.{let_go}
+use Rattle.p9_manual.specs.Ends.{let_go, let_all_go}
 use Rattle.p9_machine.specs.Calls.{begun, begun_weight, begun_weight_of, begun_count}
 
 pub map_set : {A B : Type 0} (f : A → B) (g : B → B) → (xs : List A) (i : ℕ) (y d : A) → i < length xs → f y ≡ g (f (get_or xs i d)) → map f (set xs i y) ≡ changed g (map f xs) i
@@ -66,6 +66,11 @@ from_end g zero (x ∷ xs) le = absurd (omega arith)
 from_end g (suc i) [] le = refl
 from_end g (suc i) (x ∷ xs) le = ap (λ zs. x ∷ zs) (from_end g i xs (omega arith))
 
+pub from_at : {A : Type 0} (g : A → A) → (xs : List A) (i : ℕ) (y d : A) → i < length xs → y ≡ g (get_or xs i d) → from g (suc i) (set xs i y) ≡ from g i xs
+from_at g [] i y d lt e = absurd (omega arith)
+from_at g (x ∷ xs) zero y d lt e = ap (λ z. z ∷ map g xs) e
+from_at g (x ∷ xs) (suc i) y d lt e = ap (λ zs. x ∷ zs) (from_at g xs i y d (omega arith) e)
+
 pub from_more : {A B : Type 0} (f : A → B) (g : B → B) → (xs : List A) (i : ℕ) (y d : A) → i < length xs → f y ≡ g (f (get_or xs i d)) → from g (suc i) (map f (set xs i y)) ≡ from g i (map f xs)
 from_more f g [] i y d lt e = absurd (omega arith)
 from_more f g (x ∷ xs) zero y d lt e = ap (λ z. z ∷ map g (map f xs)) e
@@ -103,6 +108,17 @@ weight_let_go t Closed = refl
 pub count_let_go : (t : ℕ) (ios : List Ioproc) → begun_count (map (let_go t) ios) ≡ begun_count ios
 count_let_go t [] = refl
 count_let_go t (x ∷ ios) = let e = weight_let_go t x in let h = count_let_go t ios in omega arith
+
+weight_abandon : (io : Ioproc) → begun_weight (let_all_go io) ≡ begun_weight io
+weight_abandon Unmade = refl
+weight_abandon Idle = refl
+weight_abandon (Posted u call) = refl
+weight_abandon (Begun u call) = refl
+weight_abandon Closed = refl
+
+pub count_abandon : (ios : List Ioproc) → begun_count (map let_all_go ios) ≡ begun_count ios
+count_abandon [] = refl
+count_abandon (x ∷ ios) = let e = weight_abandon x in let h = count_abandon ios in omega arith
 
 pub map_slice_past : {A B : Type 0} (f : A → B) → (xs : List A) (i : ℕ) → length xs ≤ i → slice_get (map f xs) i ≡ None
 map_slice_past f [] i le = refl

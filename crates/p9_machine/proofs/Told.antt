@@ -1,7 +1,7 @@
 -- The message of a reply is the one that was copied before.
-use Rattle.std.proofs.Common.{ℕ, Bool, true, false, not, cond, ◌||◌, List, Option, Some, None}
+use Rattle.std.proofs.Common.{ℕ, ◌≡◌, Bool, true, false, not, cond, ◌||◌, List, [], ◌∷◌, Option, Some, None, refl, sym}
 use Rattle.std.specs.Prelude.{option_map, nat_lt}
-use Rattle.std.specs.List.{list_any}
+use Rattle.std.specs.List.{list_any, filter}
 use Rattle.p9_word.specs.declared.trail.Seat.{Seat}
 use Rattle.p9_word.specs.declared.trail.Seat.TheVariants.{Proc, Io as IoSeat}
 use Rattle.p9_word.specs.declared.trail.Event.{Event}
@@ -9,7 +9,7 @@ use Rattle.p9_word.specs.declared.trail.Event.TheVariants.{Call, Next, IoTake, I
 use Rattle.p9_word.specs.declared.request.Request.{Request}
 use Rattle.p9_word.specs.declared.request.Request.TheVariants.{Thread as ThreadRequest, Chan as ChanRequest, Io as IoRequest}
 use Rattle.p9_word.specs.declared.request.ThreadReq.{ThreadReq}
-use Rattle.p9_word.specs.declared.request.ThreadReq.TheVariants.{ThreadExits}
+use Rattle.p9_word.specs.declared.request.ThreadReq.TheVariants as ask
 use Rattle.p9_word.specs.declared.request.ChanReq.{ChanReq}
 use Rattle.p9_word.specs.declared.request.ChanReq.TheVariants.{ChanClose, Send, Recv}
 use Rattle.p9_word.specs.declared.request.IoReq.{IoReq}
@@ -24,16 +24,23 @@ use Rattle.p9_manual.specs.declared.state.Channel.{Channel}
 use Rattle.p9_manual.specs.declared.state.Waiter.{Waiter}
 use Rattle.p9_manual.specs.declared.state.Ioproc.{Ioproc}
 use Rattle.p9_manual.specs.declared.state.Ioproc.TheVariants as stand
-use Rattle.p9_manual.specs.State.{State, Outcome, by_id, pick}
+use Rattle.p9_manual.specs.State.{State, Outcome, Proc as ThreadProc, by_id, pick, same}
+use Rattle.p9_word.specs.declared.trail.Reply.TheVariants.{Stray, Over}
 use Rattle.p9_manual.specs.Places.{runs_there, runs_in, lives, is_of}
-use Rattle.p9_manual.specs.Threads.{thread_call}
+use Rattle.p9_manual.specs.Create.{create_thread, create_proc, is_no_program, is_full}
+use Rattle.p9_manual.specs.Threads.{thread_call, asked, asked_by, pid_of, word_of, is_no_name}
 use Rattle.p9_manual.specs.Chans.{chan_call, send, send_to, recv, recv_from, close, is_too_long}
 use Rattle.p9_manual.specs.Ioprocs.{io_call, make, post_call, close_ioproc, take_call, did_call, fits, io_event}
 use Rattle.p9_manual.specs.Effects.{message_length}
 use Rattle.p9_manual.specs.Stuck.{is_stuck}
 use Rattle.p9_manual.specs.Next.{next_event, next_of, turn, turn_reply, started, is_place, is_over}
 use Rattle.p9_manual.specs.Step.{outcome, called, served}
-use Rattle.p9_machine.specs.Copies.{IsOfReply, IsOfPlace, IsOfThread, IsOfPicked, IsOfPosted, IsTold}
+use Rattle.p9_sched.specs.Schedule.{Schedule, line_of}
+use Rattle.p9_sched.specs.Turns.{first_answer, answer_of, answer_at}
+use Rattle.p9_machine.specs.declared.board.Board.{Board}
+use Rattle.p9_machine.specs.Board.{IsUsable, state_of}
+use Rattle.p9_machine.proofs.Parts.{first_of, none_picked, place_from, place_to}
+use Rattle.p9_machine.specs.Copies.{IsOfReply, IsOfAnswer, IsOfNext, IsOfPosted, IsForThread, IsToldAtOnce, IsTold}
 
 abbrev IsOf : Outcome → List ℕ → Type 0
 IsOf o m = IsOfReply o.reply m
@@ -69,9 +76,45 @@ of_chan m S t (ChanClose c) s = of_close m c s _
 of_chan m S t (Send c v) s = of_send m t c v s _
 of_chan m S t (Recv keep c) s = of_recv m t keep c s _
 
-of_thread : (m : List ℕ) (S : Setup) (t : ℕ) (r : ThreadReq) (s : State) → IsOf (thread_call S t r s) m
+of_create : (m : List ℕ) (S : Setup) (program arg : ℕ) (s : State) (caller : Thread) → IsOf (create_thread S program arg s caller) m
+of_create m S program arg s caller = of_if m (is_no_program S program) _ _ tt (of_if m (is_full s) _ _ tt tt)
+
+of_create_proc : (m : List ℕ) (S : Setup) (t program arg : ℕ) (s : State) (caller : Thread) → IsOf (create_proc S t program arg s caller) m
+of_create_proc m S t program arg s caller = of_if m (is_no_program S program) _ _ tt (of_if m (is_full s || not (nat_lt s.opened S.places)) _ _ tt tt)
+
+of_pid : (m : List ℕ) (s : State) (o : Option Thread) → IsOf (pid_of s o) m
+of_pid m s None = tt
+of_pid m s (Some thread) = tt
+
+of_word : (m : List ℕ) (s : State) (o : Option ThreadProc) → IsOf (word_of s o) m
+of_word m s None = tt
+of_word m s (Some proc) = tt
+
+of_asked : (m : List ℕ) (S : Setup) (t : ℕ) (r : ThreadReq) (s : State) (caller : Thread) → IsForThread r (Some caller) m → IsOf (asked S t r s caller) m
+unfolding asked
+of_asked m S t (ask.ThreadCreate program arg) s caller h = of_create m S program arg s caller
+of_asked m S t (ask.ProcCreate program arg) s caller h = of_create_proc m S t program arg s caller
+of_asked m S t (ask.ThreadExits text) s caller h = tt
+of_asked m S t (ask.ThreadExitsAll text) s caller h = tt
+of_asked m S t ask.Yield s caller h = tt
+of_asked m S t ask.ThreadId s caller h = tt
+of_asked m S t (ask.ThreadPid u) s caller h = of_pid m s (by_id s.threads u)
+of_asked m S t ask.ThreadGetGrp s caller h = tt
+of_asked m S t (ask.ThreadSetGrp group) s caller h = tt
+of_asked m S t (ask.ThreadSetName name) s caller h = of_if m (is_no_name name) _ _ tt tt
+of_asked m S t ask.ThreadGetName s caller h = h
+of_asked m S t ask.ThreadWord s caller h = tt
+of_asked m S t (ask.ThreadSetWord word) s caller h = tt
+of_asked m S t ask.ProcWord s caller h = of_word m s (by_id s.procs caller.proc_no)
+of_asked m S t (ask.ProcSetWord word) s caller h = tt
+
+of_asked_by : (m : List ℕ) (S : Setup) (t : ℕ) (r : ThreadReq) (s : State) (o : Option Thread) → IsForThread r o m → IsOf (asked_by S t r s o) m
+of_asked_by m S t r s None h = tt
+of_asked_by m S t r s (Some caller) h = of_asked m S t r s caller h
+
+of_thread : (m : List ℕ) (S : Setup) (t : ℕ) (r : ThreadReq) (s : State) → IsForThread r (by_id s.threads t) m → IsOf (thread_call S t r s) m
 unfolding thread_call
-of_thread m S t (ThreadExits text) s = tt
+of_thread m S t r s h = of_asked_by m S t r s (by_id s.threads t) h
 
 of_make : (m : List ℕ) (k : ℕ) (s : State) (o : Option Ioproc) → IsOf (make k s o) m
 of_make m k s None = tt
@@ -103,15 +146,32 @@ of_io m S t (IoProc k) s = of_make m k s _
 of_io m S t (IoRun k call) s = of_post m t k call s _
 of_io m S t (CloseIoProc k) s = of_close_ioproc m k s _
 
-of_served : (m : List ℕ) (S : Setup) (t : ℕ) (r : Request) (s : State) → IsOf (served S t r s) m
+of_served : (m : List ℕ) (S : Setup) (t : ℕ) (r : Request) (s : State) → IsToldAtOnce t r s m → IsOf (served S t r s) m
 unfolding served
-of_served m S t (ThreadRequest r) s = of_thread m S t r s
-of_served m S t (ChanRequest r) s = of_chan m S t r s
-of_served m S t (IoRequest r) s = of_io m S t r s
+of_served m S t (ThreadRequest r) s h = of_thread m S t r s h
+of_served m S t (ChanRequest r) s h = of_chan m S t r s
+of_served m S t (IoRequest r) s h = of_io m S t r s
 
-of_called : (m : List ℕ) (S : Setup) (p t : ℕ) (r : Request) (s : State) → IsOf (called S p t r s) m
+of_called : (m : List ℕ) (S : Setup) (p t : ℕ) (r : Request) (s : State) → IsToldAtOnce t r s m → IsOf (called S p t r s) m
 unfolding called
-of_called m S p t r s = of_if m (runs_there p (by_id s.threads t)) _ _ (of_served m S t r s) tt
+of_called m S p t r s h = of_if m (runs_there p (by_id s.threads t)) _ _ (of_served m S t r s h) tt
+
+-- m is the message of the answer that a thread at this place goes on with, if it has one
+abbrev IsOfPlace : Place → List ℕ → Type 0
+IsOfPlace (Ready a) m = IsOfAnswer a m
+IsOfPlace Running m = Unit {0}
+IsOfPlace New m = Unit {0}
+IsOfPlace Waiting m = Unit {0}
+IsOfPlace Ended m = Unit {0}
+
+abbrev IsOfThread : Option Thread → List ℕ → Type 0
+IsOfThread None m = Unit {0}
+IsOfThread (Some thread) m = IsOfPlace thread.place m
+
+-- m is the message of the answer of the thread that is picked to run, if it has one
+abbrev pub IsOfPicked : Option (ℕ × List ℕ) → List Thread → List ℕ → Type 0
+IsOfPicked None threads m = Unit {0}
+IsOfPicked (Some found) threads m = IsOfThread (by_id threads found.0) m
 
 of_place : (m : List ℕ) (t program arg : ℕ) (pl : Place) → IsOfPlace pl m → IsOfReply (turn_reply t (program, arg, pl)) m
 of_place m t program arg New h = tt
@@ -128,10 +188,14 @@ of_next_of : (m : List ℕ) (s : State) (o : Option (ℕ × List ℕ)) → IsOfP
 of_next_of m s None h = of_if m (is_stuck s) _ _ tt tt
 of_next_of m s (Some found) h = of_thread_at m found.0 (record s { line = found.1 }) (by_id s.threads found.0) h
 
-of_next : (m : List ℕ) (S : Setup) (p : ℕ) (s : State) → IsOfPicked (pick (λ t. is_of p (by_id s.threads t)) s.line) s.threads m → IsOf (next_event S p s) m
+of_next_at : (b : Bool) (m : List ℕ) (S : Setup) (p : ℕ) (s : State) → is_place S p ≡ b → (is_place S p ≡ true → IsOfPicked (pick (λ t. is_of p (by_id s.threads t)) s.line) s.threads m) → IsOf (cond (not b) (same Stray s) (cond (is_over p s) (same Over s) (cond (list_any (runs_in p) s.threads) (same Stray s) (next_of s (pick (λ t. is_of p (by_id s.threads t)) s.line))))) m
+of_next_at false m S p s e h = tt
+of_next_at true m S p s e h =
+    of_if m (is_over p s) _ _ tt (of_if m (list_any (runs_in p) s.threads) _ _ tt (of_next_of m s (pick (λ t. is_of p (by_id s.threads t)) s.line) (h e)))
+
+of_next : (m : List ℕ) (S : Setup) (p : ℕ) (s : State) → (is_place S p ≡ true → IsOfPicked (pick (λ t. is_of p (by_id s.threads t)) s.line) s.threads m) → IsOf (next_event S p s) m
 unfolding next_event
-of_next m S p s h =
-    of_if m (not (is_place S p)) _ _ tt (of_if m (is_over p s) _ _ tt (of_if m (list_any (runs_in p) s.threads) _ _ tt (of_next_of m s (pick (λ t. is_of p (by_id s.threads t)) s.line) h)))
+of_next m S p s h = of_next_at (is_place S p) m S p s refl h
 
 of_take : (m : List ℕ) (k : ℕ) (s : State) (o : Option Ioproc) → IsOfPosted o m → IsOf (take_call k s o) m
 of_take m k s None h = tt
@@ -149,9 +213,20 @@ of_did m k effect s (Some (stand.Posted t call)) = tt
 of_did m k effect s (Some (stand.Begun t call)) = of_if m (fits call effect) _ _ tt tt
 of_did m k effect s (Some stand.Closed) = tt
 
-pub told_outcome : (S : Setup) (seat : Seat) (event : Event) (s : State) (m : List ℕ) → IsTold seat event s m → IsOfReply (outcome S seat event s).reply m
+-- the message of the reply to an event, as the state has it
+abbrev pub IsToldIn : Setup → Seat → Event → State → List ℕ → Type 0
+IsToldIn S (Proc p) Next s m = is_place S p ≡ true → IsOfPicked (pick (λ t. is_of p (by_id s.threads t)) s.line) s.threads m
+IsToldIn S (Proc p) (Call t r) s m = IsToldAtOnce t r s m
+IsToldIn S (Proc p) IoTake s m = Unit {0}
+IsToldIn S (Proc p) (IoDid effect) s m = Unit {0}
+IsToldIn S (IoSeat k) IoTake s m = IsOfPosted (by_id s.ioprocs k) m
+IsToldIn S (IoSeat k) (Call t r) s m = Unit {0}
+IsToldIn S (IoSeat k) Next s m = Unit {0}
+IsToldIn S (IoSeat k) (IoDid effect) s m = Unit {0}
+
+pub told_outcome : (S : Setup) (seat : Seat) (event : Event) (s : State) (m : List ℕ) → IsToldIn S seat event s m → IsOfReply (outcome S seat event s).reply m
 unfolding outcome io_event
-told_outcome S (Proc p) (Call t r) s m h = of_called m S p t r s
+told_outcome S (Proc p) (Call t r) s m h = of_called m S p t r s h
 told_outcome S (Proc p) Next s m h = of_next m S p s h
 told_outcome S (Proc p) IoTake s m h = tt
 told_outcome S (Proc p) (IoDid effect) s m h = tt
@@ -159,3 +234,35 @@ told_outcome S (IoSeat k) IoTake s m h = of_take m k s _ h
 told_outcome S (IoSeat k) (IoDid effect) s m h = of_did m k effect s _
 told_outcome S (IoSeat k) (Call t r) s m h = tt
 told_outcome S (IoSeat k) Next s m h = tt
+
+at_place_told : (pl : Place) (m : List ℕ) → IsOfNext (answer_at pl) m → IsOfPlace pl m
+at_place_told Running m h = tt
+at_place_told New m h = tt
+at_place_told (Ready a) m h = h
+at_place_told Waiting m h = tt
+at_place_told Ended m h = tt
+
+at_thread : (o : Option Thread) (m : List ℕ) → IsOfNext (answer_of o) m → IsOfThread o m
+at_thread None m h = tt
+at_thread (Some thread) m h = at_place_told thread.place m h
+
+next_picked : (p : ℕ) (sched : Schedule) (line part : List ℕ) (m : List ℕ) → filter (λ t. is_of p (by_id sched.threads t)) line ≡ part → IsOfNext (first_answer sched part) m → IsOfPicked (pick (λ t. is_of p (by_id sched.threads t)) line) sched.threads m
+next_picked p sched line [] m e h = rw (none_picked _ line e) tt
+next_picked p sched line (t ∷ part) m e h =
+    let f = first_of (λ u. is_of p (by_id sched.threads u)) t part line e in
+    rw f.picked (at_thread (by_id sched.threads t) m h)
+
+-- the message that was copied for the board is that of the state
+pub told_in : (board : Board) (line : List ℕ) (seat : Seat) (event : Event) (m : List ℕ) → IsUsable board line → IsTold seat event (state_of board []) board.sched m → IsToldIn board.setup seat event (state_of board line) m
+told_in board line (Proc p) Next m u h = λ at.
+    let places = u.places in
+    next_picked p board.sched line (line_of p board.sched) m (sym (u.parts.part p (place_from board.setup p at) (rw places (place_to board.setup p at)))) h
+told_in board line (Proc p) (Call t (ThreadRequest r)) m u h = h
+told_in board line (Proc p) (Call t (ChanRequest r)) m u h = h
+told_in board line (Proc p) (Call t (IoRequest r)) m u h = h
+told_in board line (Proc p) IoTake m u h = h
+told_in board line (Proc p) (IoDid effect) m u h = h
+told_in board line (IoSeat k) IoTake m u h = h
+told_in board line (IoSeat k) (Call t r) m u h = h
+told_in board line (IoSeat k) Next m u h = h
+told_in board line (IoSeat k) (IoDid effect) m u h = h

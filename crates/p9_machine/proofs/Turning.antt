@@ -1,40 +1,168 @@
 -- What happens where a thread is to run.
-use Rattle.std.proofs.Common.{◌≡◌, ℕ, Bool, true, false, List, Option, Some, None, refl}
-use Rattle.std.specs.Prelude.{option_map, if◌then◌else◌}
+use Rattle.std.proofs.Common.{◌≡◌, ℕ, zero, suc, ◌-◌, ◌≤◌, Bool, true, false, not, cond, ◌||◌, List, [], ◌∷◌, length, Option, Some, None, MatchOption, refl, ap, sym, subst, ◌∙◌, arith, rules, tests}
+use Rattle.std.specs.Prelude.{option_map, slice_get, nat_lt, nat_le, nat_eq, is_some, if◌then◌else◌}
+use Rattle.std.specs.List.{filter, list_any}
+use Rattle.p9_word.specs.declared.setup.Setup.{Setup}
 use Rattle.p9_word.specs.declared.trail.Reply.{Reply}
-use Rattle.p9_manual.specs.declared.state.Place.{Place}
-use Rattle.p9_manual.specs.declared.state.Place.TheVariants.{Running, New, Ready, Waiting, Ended}
+use Rattle.p9_word.specs.declared.trail.Reply.TheVariants.{Stray, Over, Idle}
+use Rattle.p9_manual.specs.declared.state.Place.{Place as Stand}
+use Rattle.p9_manual.specs.declared.state.Place.TheVariants as stand
 use Rattle.p9_manual.specs.declared.state.Thread.{Thread}
-use Rattle.p9_manual.specs.State.{State, by_id, placed}
-use Rattle.p9_manual.specs.Places.{is_ready}
-use Rattle.p9_manual.specs.Next.{turn_reply, started, turn, next_of}
+use Rattle.p9_manual.specs.State.{State, Outcome, by_id, pick, same}
+use Rattle.p9_manual.specs.Places.{is_of, lives, lives_in, runs_in, runs_there}
+use Rattle.p9_manual.specs.Standing.{times}
+use Rattle.p9_manual.specs.Next.{is_place, is_over, started, turn, next_of, next_event, stuck}
 use Rattle.p9_manual.specs.Step.{makes_entry}
-use Rattle.p9_machine.specs.Board.{settled}
-use Rattle.p9_machine.specs.Turns.{reply_of}
+use Rattle.p9_sched.specs.declared.turns.Ready.{Ready}
+use Rattle.p9_sched.specs.declared.turns.Ready.TheVariants.{New, Old}
+use Rattle.p9_sched.specs.Schedule.{Schedule, line_of, begun}
+use Rattle.p9_sched.specs.Turns.{ready_at, ready_of, turn_of, next_in}
+use Rattle.p9_machine.specs.declared.board.Board.{Board}
+use Rattle.p9_machine.specs.Board.{state_of, AreParts, IsUsable, Gives}
+use Rattle.p9_machine.specs.Turns.{turn_told}
+use Rattle.p9_machine.proofs.Parts.{FirstOf, first_of, none_picked, parts_begun, changed_length, times_any}
 
-pub chosen : {A : Type 0} (b : Bool) (x y z : A) → b ≡ true → x ≡ y → x ≡ (if b then y else z)
-chosen true x y z e h = h
-chosen false x y z e h = cc
+passes_if : (b : Bool) (p : ℕ → Bool) (x t : ℕ) (xs rest : List ℕ) → p x ≡ b → cond b (x ∷ xs) xs ≡ t ∷ rest → (xs ≡ t ∷ rest → p t ≡ true) → p t ≡ true
+passes_if true p x t xs rest e h more = let same : x ≡ t = cc in rw (← same) e
+passes_if false p x t xs rest e h more = more h
 
-pub passed : {A : Type 0} (b : Bool) (x y z : A) → b ≡ false → x ≡ z → x ≡ (if b then y else z)
-passed true x y z e h = cc
-passed false x y z e h = h
+-- the first of those that pass passes
+first_passes : (p : ℕ → Bool) (t : ℕ) (rest : List ℕ) → (line : List ℕ) → filter p line ≡ t ∷ rest → p t ≡ true
+first_passes p t rest [] h = absurd (cc h)
+first_passes p t rest (x ∷ line) h = passes_if (p x) p x t (filter p line) rest refl h (first_passes p t rest line)
 
-pub ready_makes : (t program arg : ℕ) (place : Place) → is_ready place ≡ true → makes_entry (turn_reply t (program, arg, place)) ≡ true
-ready_makes t program arg New e = refl
-ready_makes t program arg (Ready a) e = refl
-ready_makes t program arg Running e = cc
-ready_makes t program arg Waiting e = cc
-ready_makes t program arg Ended e = cc
+-- a reply that makes no entry leaves the board as it is
+pub unmoved : (board : Board) (line : List ℕ) (r : Reply) → makes_entry r ≡ false → IsUsable board line → Gives board line (same r (state_of board line)) r board
+unmoved board line r quiet u = record {
+  reply_is = refl;
+  stands = rw quiet (record { state = refl; parts = u.parts });
+  setup = refl;
+  places = refl;
+  rooms = refl;
+  calls = omega arith;
+}
 
-ran_by : (s : State) (t : ℕ) (l : List ℕ) (o : Option (ℕ × ℕ × Place)) (r : Reply) (threads : List Thread) (line : List ℕ) → r ≡ reply_of t o → threads ≡ (if makes_entry r then placed t Running s.threads else s.threads) → line ≡ (if makes_entry r then l else s.line) → (r ≡ (turn t (record s { line = l }) o).reply) × (record s { threads = threads; line = line } ≡ settled (makes_entry (turn t (record s { line = l }) o).reply) s (turn t (record s { line = l }) o).state)
-ran_by s t l None r threads line re th le = let th' = rw re at th in let le' = rw re at le in (re, rw (th', le') refl)
-ran_by s t l (Some (program, arg, New)) r threads line re th le = let th' = rw re at th in let le' = rw re at le in (re, rw (th', le') refl)
-ran_by s t l (Some (program, arg, Ready a)) r threads line re th le = let th' = rw re at th in let le' = rw re at le in (re, rw (th', le') refl)
-ran_by s t l (Some (program, arg, Running)) r threads line re th le = let th' = rw re at th in let le' = rw re at le in (re, rw (th', le') refl)
-ran_by s t l (Some (program, arg, Waiting)) r threads line re th le = let th' = rw re at th in let le' = rw re at le in (re, rw (th', le') refl)
-ran_by s t l (Some (program, arg, Ended)) r threads line re th le = let th' = rw re at th in let le' = rw re at le in (re, rw (th', le') refl)
+-- the run is at its end, since it is stuck
+pub stuck_now : (board : Board) (line : List ℕ) (b : Bool) → b ≡ true → IsUsable board line → Gives board line (if b then stuck (state_of board line) else same Idle (state_of board line)) (stuck (state_of board line)).reply (record board { over = true })
+stuck_now board line true e u = record {
+  reply_is = refl;
+  stands = record { state = refl; parts = u.parts };
+  setup = refl;
+  places = refl;
+  rooms = refl;
+  calls = omega arith;
+}
+stuck_now board line false e u = absurd (cc e)
 
--- a thread that was picked runs, if it can
-pub ran : (s : State) (t : ℕ) (l : List ℕ) (q : Option (ℕ × List ℕ)) (r : Reply) (threads : List Thread) (line : List ℕ) → q ≡ Some (t, l) → r ≡ reply_of t (option_map started (by_id s.threads t)) → threads ≡ (if makes_entry r then placed t Running s.threads else s.threads) → line ≡ (if makes_entry r then l else s.line) → (r ≡ (next_of s q).reply) × (record s { threads = threads; line = line } ≡ settled (makes_entry (next_of s q).reply) s (next_of s q).state)
-ran s t l q r threads line e re th le = rw e (ran_by s t l (option_map started (by_id s.threads t)) r threads line re th le)
+pub idle_now : (board : Board) (line : List ℕ) (b : Bool) → b ≡ false → IsUsable board line → Gives board line (if b then stuck (state_of board line) else same Idle (state_of board line)) Idle board
+idle_now board line true e u = absurd (cc e)
+idle_now board line false e u = unmoved board line Idle refl u
+
+-- a thread of this place, which was the first of its proc's line, runs
+at_stand : (board : Board) (line others : List ℕ) (p t program arg : ℕ) (ready : Ready) (pl : Stand) → AreParts (begun p t board.sched) others → Some ready ≡ ready_at t program arg pl → Gives board line (turn t (record (state_of board line) { line = others }) (Some (program, arg, pl))) (turn_told ready) (record board { sched = begun p t board.sched })
+at_stand board line others p t program arg ready stand.New h e =
+    let r : ready ≡ New t program arg = cc in
+    record {
+      reply_is = ap turn_told r;
+      stands = record { state = refl; parts = h };
+      setup = refl;
+      places = changed_length _ _ _;
+      rooms = refl;
+      calls = omega arith;
+    }
+at_stand board line others p t program arg ready (stand.Ready a) h e =
+    let r : ready ≡ Old t a = cc in
+    record {
+      reply_is = ap turn_told r;
+      stands = record { state = refl; parts = h };
+      setup = refl;
+      places = changed_length _ _ _;
+      rooms = refl;
+      calls = omega arith;
+    }
+at_stand board line others p t program arg ready stand.Running h e = absurd (cc e)
+at_stand board line others p t program arg ready stand.Waiting h e = absurd (cc e)
+at_stand board line others p t program arg ready stand.Ended h e = absurd (cc e)
+
+at_thread : (board : Board) (line rest : List ℕ) (p t : ℕ) (ready : Ready) (o : Option Thread) → 1 ≤ p → by_id board.sched.threads t ≡ o → is_of p o ≡ true → line_of p board.sched ≡ t ∷ rest → (f : FirstOf (λ u. is_of p (by_id board.sched.threads u)) t rest line) → AreParts board.sched line → Some ready ≡ ready_of t o → Gives board line (turn t (record (state_of board line) { line = f.others }) (option_map started o)) (turn_told ready) (record board { sched = begun p t board.sched })
+at_thread board line rest p t ready None a at mine first f h e = absurd (cc e)
+at_thread board line rest p t ready (Some thread) a at mine first f h e =
+    let proc : thread.proc_no ≡ p = search (rules, tests) in
+    at_stand board line f.others p t thread.program thread.arg ready thread.place (parts_begun p t rest line board.sched thread a at proc first f h) e
+
+turned_by : (board : Board) (line part : List ℕ) (p : ℕ) (ready : Ready) (n : Schedule) → 1 ≤ p → line_of p board.sched ≡ part → filter (λ u. is_of p (by_id board.sched.threads u)) line ≡ part → AreParts board.sched line → (Some ready, n) ≡ turn_of p board.sched part → Gives board line (next_of (state_of board line) (pick (λ u. is_of p (by_id board.sched.threads u)) line)) (turn_told ready) (record board { sched = n })
+turned_by board line [] p ready n a first mine h e = absurd (cc (ap (λ (x : Option Ready × Schedule). x.0) e))
+turned_by board line (t ∷ rest) p ready n a first mine h e =
+    let f = first_of (λ u. is_of p (by_id board.sched.threads u)) t rest line mine in
+    let passes = first_passes (λ u. is_of p (by_id board.sched.threads u)) t rest line mine in
+    let turn_is : Some ready ≡ ready_of t (by_id board.sched.threads t) = ap (λ (x : Option Ready × Schedule). x.0) e in
+    let new_is : n ≡ begun p t board.sched = ap (λ (x : Option Ready × Schedule). x.1) e in
+    rw (f.picked, new_is) (at_thread board line rest p t ready (by_id board.sched.threads t) a refl passes first f h turn_is)
+
+-- the first thread of a proc's line runs
+pub turned : (board : Board) (line : List ℕ) (p : ℕ) (ready : Ready) (n : Schedule) → 1 ≤ p → p ≤ length board.sched.lines → IsUsable board line → (Some ready, n) ≡ next_in p board.sched → Gives board line (next_of (state_of board line) (pick (λ u. is_of p (by_id board.sched.threads u)) line)) (turn_told ready) (record board { sched = n })
+turned board line p ready n a b u e = turned_by board line (line_of p board.sched) p ready n a refl (sym (u.parts.part p a b)) u.parts e
+
+-- where a proc's line is empty none of its threads is picked
+pub none_of : (board : Board) (line : List ℕ) (p : ℕ) → 1 ≤ p → p ≤ length board.sched.lines → IsUsable board line → line_of p board.sched ≡ [] → pick (λ u. is_of p (by_id board.sched.threads u)) line ≡ None
+none_of board line p a b u e = none_picked (λ u. is_of p (by_id board.sched.threads u)) line (sym (u.parts.part p a b) ∙ e)
+
+not_above : (n : ℕ) → nat_eq n 0 ≡ not (nat_lt 0 n)
+not_above zero = refl
+not_above (suc n) = search (rules, tests)
+
+-- whether an open proc is over
+pub over_open : (over : Bool) (p opened n : ℕ) (threads : List Thread) → over ≡ false → p ≤ opened → n ≡ times (lives_in p) threads → nat_eq n 0 ≡ (over || not (list_any (if nat_le p opened then lives_in p else lives) threads))
+over_open over p opened n threads o le e =
+    let b : nat_le p opened ≡ true = search (rules, tests) in
+    rw (o, b, e) (not_above (times (lives_in p) threads) ∙ ap not (times_any (lives_in p) threads))
+
+any_get : (p : ℕ) (threads : List Thread) (i : ℕ) → runs_there p (slice_get threads i) ≡ true → list_any (runs_in p) threads ≡ true
+any_get p [] i h = cc
+any_get p (x ∷ xs) zero h = rw h refl
+any_get p (x ∷ xs) (suc i) h = rw (any_get p xs i h) (search (rules, tests))
+
+any_if : (b : Bool) (p : ℕ) (threads : List Thread) (i : ℕ) → runs_there p (cond b (slice_get threads i) None) ≡ true → list_any (runs_in p) threads ≡ true
+any_if true p threads i h = any_get p threads i h
+any_if false p threads i h = cc
+
+-- a thread that runs in a proc
+pub any_runs : (p : ℕ) (threads : List Thread) (t : ℕ) → runs_there p (by_id threads t) ≡ true → list_any (runs_in p) threads ≡ true
+any_runs p threads t h = any_if (nat_lt 0 t) p threads (t - 1) h
+
+pub some_runs : (p : ℕ) (threads : List Thread) (o : Option ℕ) → MatchOption o (list_any (runs_in p) threads ≡ false) (λ t. runs_there p (by_id threads t) ≡ true) → list_any (runs_in p) threads ≡ is_some o
+some_runs p threads None h = h
+some_runs p threads (Some t) h = any_runs p threads t h
+
+over_of : (b c d : Bool) (s : State) (o : Outcome) → b ≡ true → c ≡ true → cond (not b) (same Stray s) (cond c (same Over s) (cond d (same Stray s) o)) ≡ same Over s
+over_of b c d s o e f = rw (e, f) refl
+
+stray_of : (b c d : Bool) (s : State) (o : Outcome) → b ≡ true → c ≡ false → d ≡ true → cond (not b) (same Stray s) (cond c (same Over s) (cond d (same Stray s) o)) ≡ same Stray s
+stray_of b c d s o e f g = rw (e, f, g) refl
+
+next_by : (b c d : Bool) (s : State) (o : Outcome) → b ≡ true → c ≡ false → d ≡ false → cond (not b) (same Stray s) (cond c (same Over s) (cond d (same Stray s) o)) ≡ o
+next_by b c d s o e f g = rw (e, f, g) refl
+
+-- what a proc's event comes to
+pub next_over : (setup : Setup) (p : ℕ) (s : State) → is_place setup p ≡ true → is_over p s ≡ true → next_event setup p s ≡ same Over s
+unfolding next_event
+next_over setup p s e f = over_of (is_place setup p) (is_over p s) (list_any (runs_in p) s.threads) s (next_of s (pick (λ t. is_of p (by_id s.threads t)) s.line)) e f
+
+pub next_stray : (setup : Setup) (p : ℕ) (s : State) → is_place setup p ≡ true → is_over p s ≡ false → list_any (runs_in p) s.threads ≡ true → next_event setup p s ≡ same Stray s
+unfolding next_event
+next_stray setup p s e f g = stray_of (is_place setup p) (is_over p s) (list_any (runs_in p) s.threads) s (next_of s (pick (λ t. is_of p (by_id s.threads t)) s.line)) e f g
+
+pub next_runs : (setup : Setup) (p : ℕ) (s : State) → is_place setup p ≡ true → is_over p s ≡ false → list_any (runs_in p) s.threads ≡ false → next_event setup p s ≡ next_of s (pick (λ t. is_of p (by_id s.threads t)) s.line)
+unfolding next_event
+next_runs setup p s e f g = next_by (is_place setup p) (is_over p s) (list_any (runs_in p) s.threads) s (next_of s (pick (λ t. is_of p (by_id s.threads t)) s.line)) e f g
+
+-- where a proc's line is empty nothing changes
+pub none_left : (p : ℕ) (s n : Schedule) → line_of p s ≡ [] → (None, n) ≡ next_in p s → n ≡ s
+none_left p s n e h =
+    let at : next_in p s ≡ (None, s) = ap (turn_of p s) e in
+    ap (λ (x : Option Ready × Schedule). x.1) (h ∙ at)
+
+pub rests : (board : Board) (line : List ℕ) (o : Option (ℕ × List ℕ)) (n : Schedule) (r : Reply) (new : Board) → n ≡ board.sched → o ≡ None → (IsUsable (record board { sched = n }) line → Gives (record board { sched = n }) line (next_of (state_of (record board { sched = n }) line) None) r new) → IsUsable board line → Gives board line (next_of (state_of board line) o) r new
+rests board line o n r new same none f u =
+    let g = subst (λ (m : Schedule). IsUsable (record board { sched = m }) line → Gives (record board { sched = m }) line (next_of (state_of (record board { sched = m }) line) None) r new) same f in
+    rw none (g u)

@@ -1,7 +1,7 @@
 -- The messages that an event needs beside its own, so that it takes no memory.
 use Rattle.std.specs.Prelude.{ℕ, ◌≡◌, List, [], Option, Some, None, replicate}
 use Rattle.p9_word.specs.declared.answer.Answer.{Answer}
-use Rattle.p9_word.specs.declared.answer.Answer.TheVariants.{Done, Sent, Got, Closed, Number, Io as IoAnswered, Bad}
+use Rattle.p9_word.specs.declared.answer.Answer.TheVariants.{Done, Sent, Got, Closed, Number, Minus, Text, Io as IoAnswered, Bad}
 use Rattle.p9_word.specs.declared.answer.IoAnswer.{IoAnswer}
 use Rattle.p9_word.specs.declared.answer.IoAnswer.TheVariants as answer
 use Rattle.p9_word.specs.declared.io_call.IoCall.{IoCall}
@@ -9,6 +9,8 @@ use Rattle.p9_word.specs.declared.io_call.IoCall.TheVariants.{IoOpen, IoReadN, I
 use Rattle.p9_word.specs.declared.request.Request.{Request}
 use Rattle.p9_word.specs.declared.request.Request.TheVariants.{Thread as ThreadRequest, Chan as ChanRequest, Io as IoRequest}
 use Rattle.p9_word.specs.declared.request.ChanReq.{ChanReq}
+use Rattle.p9_word.specs.declared.request.ThreadReq.{ThreadReq}
+use Rattle.p9_word.specs.declared.request.ThreadReq.TheVariants.{ThreadGetName}
 use Rattle.p9_word.specs.declared.request.ChanReq.TheVariants.{ChanClose, Send, Recv}
 use Rattle.p9_word.specs.declared.request.IoReq.{IoReq}
 use Rattle.p9_word.specs.declared.request.IoReq.TheVariants.{IoProc, IoRun, CloseIoProc}
@@ -26,7 +28,8 @@ use Rattle.p9_manual.specs.declared.state.Waiter.{Waiter}
 use Rattle.p9_manual.specs.declared.state.Ioproc.{Ioproc}
 use Rattle.p9_manual.specs.declared.state.Ioproc.TheVariants as stand
 use Rattle.p9_manual.specs.Chans.{sends_on, unfreed}
-use Rattle.p9_manual.specs.Places.{is_of}
+use Rattle.p9_sched.specs.Schedule.{Schedule}
+use Rattle.p9_sched.specs.Turns.{answer_next}
 use Rattle.p9_manual.specs.State.{State, by_id, pick}
 
 -- m is the message of the answer of an ioproc, if it has one
@@ -46,6 +49,8 @@ IsOfAnswer Done m = Unit {0}
 IsOfAnswer Sent m = Unit {0}
 IsOfAnswer Closed m = Unit {0}
 IsOfAnswer (Number n) m = Unit {0}
+IsOfAnswer Minus m = Unit {0}
+IsOfAnswer (Text text) m = m ≡ text
 IsOfAnswer Bad m = Unit {0}
 
 -- m is the message of the call, if it has one
@@ -80,6 +85,11 @@ IsOfPlace PlaceEnded m = Unit {0}
 abbrev pub IsOfThread : Option Thread → List ℕ → Type 0
 IsOfThread None m = Unit {0}
 IsOfThread (Some thread) m = IsOfPlace thread.place m
+
+-- m is the message of the answer that a thread goes on with, if it has one
+abbrev pub IsOfNext : Option Answer → List ℕ → Type 0
+IsOfNext None m = Unit {0}
+IsOfNext (Some a) m = IsOfAnswer a m
 
 -- m is the message of the answer of the thread that is picked to run, if it has one
 abbrev pub IsOfPicked : Option (ℕ × List ℕ) → List Thread → List ℕ → Type 0
@@ -129,14 +139,30 @@ IsForIo (IoRun k call) m = IsOfCall call m
 IsForIo (IoProc k) m = Unit {0}
 IsForIo (CloseIoProc k) m = Unit {0}
 
-abbrev pub IsForRequest : Request → State → List ℕ → Type 0
-IsForRequest (ThreadRequest r) s m = Unit {0}
-IsForRequest (ChanRequest r) s m = IsForChan r s m
-IsForRequest (IoRequest r) s m = IsForIo r m
+-- m is the name of the thread
+abbrev pub IsNameOf : Option Thread → List ℕ → Type 0
+IsNameOf None m = Unit {0}
+IsNameOf (Some thread) m = m ≡ thread.name
+
+-- m is what a request on threads of this thread needs
+abbrev pub IsForThread : ThreadReq → Option Thread → List ℕ → Type 0
+IsForThread ThreadGetName thread m = IsNameOf thread m
+IsForThread r thread m = Unit {0}
+
+abbrev pub IsForRequest : ℕ → Request → State → List ℕ → Type 0
+IsForRequest t (ThreadRequest r) s m = IsForThread r (by_id s.threads t) m
+IsForRequest t (ChanRequest r) s m = IsForChan r s m
+IsForRequest t (IoRequest r) s m = IsForIo r m
+
+-- m is the message of the answer to a request of thread t, if it is answered at once with one
+abbrev pub IsToldAtOnce : ℕ → Request → State → List ℕ → Type 0
+IsToldAtOnce t (ThreadRequest r) s m = IsForThread r (by_id s.threads t) m
+IsToldAtOnce t (ChanRequest r) s m = Unit {0}
+IsToldAtOnce t (IoRequest r) s m = Unit {0}
 
 -- m is what the state or the reply needs beside the event
 abbrev pub IsForEvent : Seat → Event → State → List ℕ → Type 0
-IsForEvent (Proc p) (Call t r) s m = IsForRequest r s m
+IsForEvent (Proc p) (Call t r) s m = IsForRequest t r s m
 IsForEvent (Proc p) Next s m = Unit {0}
 IsForEvent (Proc p) IoTake s m = Unit {0}
 IsForEvent (Proc p) (IoDid effect) s m = Unit {0}
@@ -146,12 +172,12 @@ IsForEvent (IoSeat k) Next s m = Unit {0}
 IsForEvent (IoSeat k) (IoDid effect) s m = Unit {0}
 
 -- m is the message that the entry's copy of the reply needs
-abbrev pub IsTold : Seat → Event → State → List ℕ → Type 0
-IsTold (Proc p) Next s m = IsOfPicked (pick (λ t. is_of p (by_id s.threads t)) s.line) s.threads m
-IsTold (Proc p) (Call t r) s m = Unit {0}
-IsTold (Proc p) IoTake s m = Unit {0}
-IsTold (Proc p) (IoDid effect) s m = Unit {0}
-IsTold (IoSeat k) IoTake s m = IsOfPosted (by_id s.ioprocs k) m
-IsTold (IoSeat k) (Call t r) s m = Unit {0}
-IsTold (IoSeat k) Next s m = Unit {0}
-IsTold (IoSeat k) (IoDid effect) s m = Unit {0}
+abbrev pub IsTold : Seat → Event → State → Schedule → List ℕ → Type 0
+IsTold (Proc p) Next s sched m = IsOfNext (answer_next p sched) m
+IsTold (Proc p) (Call t r) s sched m = IsToldAtOnce t r s m
+IsTold (Proc p) IoTake s sched m = Unit {0}
+IsTold (Proc p) (IoDid effect) s sched m = Unit {0}
+IsTold (IoSeat k) IoTake s sched m = IsOfPosted (by_id s.ioprocs k) m
+IsTold (IoSeat k) (Call t r) s sched m = Unit {0}
+IsTold (IoSeat k) Next s sched m = Unit {0}
+IsTold (IoSeat k) (IoDid effect) s sched m = Unit {0}

@@ -1,6 +1,7 @@
 -- What the fields of a machine keep.
 use Rattle.std.specs.Prelude.{◌≡◌, ◌≤◌, length, Option, Some, None}
 use Rattle.p9_word.specs.Filled.{Filled}
+use Rattle.p9_word.specs.Setup.{IsValid}
 use Rattle.p9_word.specs.declared.trail.Entry.{Entry}
 use Rattle.p9_word.specs.declared.trail.Seat.{Seat}
 use Rattle.p9_word.specs.declared.trail.Event.{Event}
@@ -8,7 +9,7 @@ use Rattle.p9_manual.specs.History.{state_after, IsLegal}
 use Rattle.p9_machine.specs.declared.board.Board.{Board}
 use Rattle.p9_machine.specs.declared.reserve.Reserved.{Reserved}
 use Rattle.p9_machine.specs.declared.machine.Machine.TheInside.{Inside}
-use Rattle.p9_machine.specs.Board.{state_of, calls_of}
+use Rattle.p9_machine.specs.Board.{Stands, calls_of}
 use Rattle.p9_machine.specs.Desks.{rooms_of}
 use Rattle.p9_machine.specs.Ready.{HasMemory, HasEntries}
 use Rattle.p9_machine.specs.Shown.{Shown}
@@ -34,7 +35,9 @@ HasMemoryIfAny board entries (Some r) = HasMemory board r × HasEntries board en
 
 -- the board is where the history leads, and there is memory for what comes
 pub record IsKept (m : Inside) : Type 0 where
-  pub board : state_of m.board ≡ state_after m.board.setup m.trail.entries.items
+  pub valid : IsValid m.board.setup
+  pub board : Stands m.board (state_after m.board.setup m.trail.entries.items)
+  pub places : length m.board.sched.lines ≡ m.board.setup.places
   pub legal : IsLegal m.board.setup m.trail.entries.items
   pub counted : m.board.entries ≡ length m.trail.entries.items
   pub procs : m.trail.procs ≡ m.board.setup.procs

@@ -7,3 +7,4 @@ pub mod Plain
 pub mod Ready
 pub mod Shown
 pub mod Turns
+pub mod Waits

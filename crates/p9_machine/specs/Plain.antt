@@ -2,10 +2,8 @@
 use Rattle.std.specs.Prelude.{◌≡◌, [], All}
 use Rattle.p9_word.specs.declared.setup.Setup.{Setup}
 
--- one open proc, channels that hand each value over, and no locks, Rendez or Ref
+-- channels that hand each value over, and no locks, Rendez or Ref
 pub record IsPlain (s : Setup) : Type 0 where
-  pub places : s.places ≡ 1
-  pub opened : s.opened ≡ 1
   pub chans : All (λ c. c.cap ≡ 0) s.chans
   pub locks : s.locks ≡ 0
   pub qlocks : s.qlocks ≡ 0

@@ -1,5 +1,5 @@
 -- The memory that one event needs.
-use Rattle.std.specs.Prelude.{ℕ, ◌≡◌, ◌+◌, ◌≤◌, List, [], length}
+use Rattle.std.specs.Prelude.{ℕ, ◌≡◌, ◌+◌, ◌≤◌, List, []}
 use Rattle.p9_word.specs.Filled.{Filled}
 use Rattle.p9_word.specs.declared.trail.Entry.{Entry}
 use Rattle.p9_word.specs.declared.trail.Seat.{Seat}
@@ -36,10 +36,10 @@ pub record HasBuffersFor (seat : Seat) (event : Event) (ios : List Ioproc) (spar
 
 -- there is memory on the board for what was reserved
 pub record HasMemory (board : Board) (r : Reserved) : Type 0 where
-  pub room : HasRoom (length board.waits.items + 2) board
+  pub room : HasRoom board
   pub buffers : HasBuffersFor r.seat r.event (ioprocs_of board.desks.items) r.spares
-  pub extra : IsForEvent r.seat r.event (state_of board) r.spares.extra
-  pub told : IsTold r.seat r.event (state_of board) r.told
+  pub extra : IsForEvent r.seat r.event (state_of board []) r.spares.extra
+  pub told : IsTold r.seat r.event (state_of board []) board.sched r.told
 
 -- an entry for the event, and one for what comes of each begun call, that of the event too
 pub record HasEntries (board : Board) (entries : Filled Entry) : Type 0 where

@@ -1,11 +1,9 @@
 -- What a proc is replied when a thread is to run.
-use Rattle.std.specs.Prelude.{ℕ, Option, Some, None}
 use Rattle.p9_word.specs.declared.trail.Reply.{Reply}
-use Rattle.p9_word.specs.declared.trail.Reply.TheVariants.{Stray}
-use Rattle.p9_manual.specs.declared.state.Place.{Place}
-use Rattle.p9_manual.specs.Next.{turn_reply}
+use Rattle.p9_word.specs.declared.trail.Reply.TheVariants.{Begin, Turn}
+use Rattle.p9_sched.specs.declared.turns.Ready.{Ready}
+use Rattle.p9_sched.specs.declared.turns.Ready.TheVariants.{New, Old}
 
--- the reply for thread t, by what it is started with and where it is
-abbrev pub reply_of : ℕ → Option (ℕ × ℕ × Place) → Reply
-reply_of t None = Stray
-reply_of t (Some start) = turn_reply t start
+abbrev pub turn_told : Ready → Reply
+turn_told (New t program arg) = Begin t program arg
+turn_told (Old t answer) = Turn t answer

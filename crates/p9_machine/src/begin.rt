@@ -1,46 +1,52 @@
-ghost use Rattle.std.specs.Prelude.{◌≡◌, ◌+◌, ◌<◌, ◌^◌, [], false, map, length, replicate, IfOk};
+ghost use Rattle.std.specs.Prelude.{ℕ, ◌≡◌, ◌==◌, ◌+◌, ◌<◌, ◌∷◌, ◌++◌, [], List, false, map, length, replicate, IfOk, OnOk};
 ghost use Rattle.p9_manual.specs.History.{begin_state, ids_from, new_thread, new_channel};
 ghost use Rattle.p9_manual.specs.declared.state.Ioproc.TheVariants.{Unmade};
-ghost use Rattle.p9_machine.specs.Board.{state_of, calls_of};
+ghost use Rattle.p9_manual.specs.Standing.{times};
+ghost use Rattle.p9_sched.specs.Schedule.{IsPlace};
+ghost use Rattle.p9_word.specs.Setup.{IsValid};
+ghost use Rattle.p9_machine.specs.Board.{AreParts, Stands, calls_of};
 ghost use Rattle.p9_machine.specs.Desks.{ioprocs_of, rooms_of};
 ghost use Rattle.p9_machine.specs.Calls.{begun_count};
 
 use crate::board::Board;
 use crate::desk::Desk;
-use p9_manual::{Channel, Place, Thread};
-use p9_word::{ChanSetup, Datum, NoMemory, Seq, Setup, ThreadSetup, Tid};
+use p9_manual::Channel;
+use p9_sched::Sched;
+use p9_word::{ChanSetup, Datum, NoMemory, Seq, Setup, ThreadSetup};
 use std::alloc::Global;
 
-fn new_threads(alloc: Global, setups: &[ThreadSetup]) -> Result<Vec<Thread>, NoMemory>
-    ensures { IfOk result (λ v. v.items ≡ map new_thread setups.now) }
+/// Makes a thread that stands at the start, last in the line.
+fn add_first(sched: &mut Sched, setup: &ThreadSetup) -> Result<(), NoMemory>
+    requires place { IsPlace setup.now.proc_no sched.old }
+    requires few { length sched.old.threads < 65536 }
+    ensures threads { OnOk result (sched.new.threads ≡ sched.old.threads ++ new_thread setup.now ∷ []) }
+    ensures parts { OnOk result ((line : List ℕ) → times (λ u. u == length sched.old.threads + 1) line ≡ 0 → AreParts sched.old line → AreParts sched.new (line ++ (length sched.old.threads + 1) ∷ [])) }
+    ensures words { OnOk result (sched.new.words ≡ sched.old.words) }
+    ensures opened { OnOk result (sched.new.opened ≡ sched.old.opened) }
+    ensures places { OnOk result (length sched.new.lines ≡ length sched.old.lines) }
 {
-    let mut threads = Vec::new(alloc);
-    for t in setups {
-        threads.push(Thread {
-            proc_no: t.proc_no,
-            program: t.program,
-            arg: t.arg,
-            group: 0,
-            name: t.name.copy()?,
-            word: 0,
-            marked: false,
-            place: Place::New,
-        })?;
+    let name = setup.name.copy()?;
+    sched.reserve()?;
+    if let Some(t) = sched.make_thread(setup.proc_no, setup.program, setup.arg, 0) {
+        sched.set_name(t, name);
     }
-    Ok(threads)
+    Ok(())
 }
 
-fn first_line(alloc: Global, setups: &[ThreadSetup]) -> Result<Vec<Tid>, NoMemory>
-    requires { length setups.now + 1 < 2 ^ 32 }
-    ensures { IfOk result (λ v. v.items ≡ ids_from 1 setups.now) }
+/// The threads and procs at the start.
+fn begin_sched(alloc: Global, setup: &Setup) -> Result<Sched, NoMemory>
+    requires { IsValid setup.now }
+    ensures threads { IfOk result (λ s. s.threads ≡ map new_thread setup.now.threads) }
+    ensures parts { IfOk result (λ s. AreParts s (ids_from 1 setup.now.threads)) }
+    ensures words { IfOk result (λ s. s.words ≡ replicate setup.now.places 0) }
+    ensures opened { IfOk result (λ s. s.opened ≡ setup.now.opened) }
+    ensures places { IfOk result (λ s. length s.lines ≡ setup.now.places) }
 {
-    let mut line = Vec::new(alloc);
-    let mut id = 1;
-    for _t in setups {
-        line.push(id)?;
-        id += 1;
+    let mut sched = Sched::new(alloc, setup.places, setup.opened)?;
+    for thread in setup.threads.as_slice() {
+        add_first(&mut sched, thread)?;
     }
-    Ok(line)
+    Ok(sched)
 }
 
 fn new_channels(alloc: Global, setups: &[ChanSetup]) -> Result<Vec<Channel>, NoMemory>
@@ -73,21 +79,20 @@ fn new_desks(alloc: Global, n: u32) -> Result<Vec<Desk>, NoMemory>
 
 /// The board at the start.
 pub(crate) fn begin_board(alloc: Global, setup: &Setup) -> Result<Board, NoMemory>
-    requires { length setup.now.threads + 1 < 2 ^ 32 }
-    ensures state { IfOk result (λ b. state_of b ≡ begin_state setup.now) }
+    requires { IsValid setup.now }
+    ensures board { IfOk result (λ b. Stands b (begin_state setup.now)) }
+    ensures places { IfOk result (λ b. length b.sched.lines ≡ setup.now.places) }
     ensures setup { IfOk result (λ b. b.setup ≡ setup.now) }
     ensures rooms { IfOk result (λ b. rooms_of b.desks.items ≡ replicate setup.now.files false) }
     ensures calls { IfOk result (λ b. calls_of b ≡ 0) }
 {
     let copy = setup.copied(alloc)?;
-    let threads = new_threads(alloc, setup.threads.as_slice())?;
-    let line = first_line(alloc, setup.threads.as_slice())?;
+    let sched = begin_sched(alloc, setup)?;
     let chans = new_channels(alloc, setup.chans.as_slice())?;
     let desks = new_desks(alloc, setup.files)?;
     Ok(Board {
         setup: copy,
-        threads,
-        line,
+        sched,
         waits: Vec::new(alloc),
         chans,
         desks,

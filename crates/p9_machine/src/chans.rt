@@ -1,13 +1,15 @@
-ghost use Rattle.std.specs.Prelude.{ℕ, ◌≡◌, ◌+◌, ◌-◌, ◌≤◌, ◌++◌, [], List, length, map, not, replicate, vec_len, vec_capacity};
+ghost use Rattle.std.specs.Prelude.{ℕ, ◌≡◌, ◌-◌, ◌++◌, [], List, length, map, not};
 ghost use Rattle.std.specs.List.{filter};
 ghost use Rattle.p9_manual.specs.State.{by_id, changed, pick};
 ghost use Rattle.p9_manual.specs.Chans.{send, recv, close, kept_by, sent_by, value_bytes, is_too_long, chan_call, waits_on, sends_on, closed_chan, all_closed, unfreed};
-ghost use Rattle.p9_machine.specs.Board.{state_of, HasRoom, Gives};
+ghost use Rattle.p9_machine.specs.Board.{state_of, AreParts, HasRoom, IsBoard, IsUsable, IsRunning, Gives};
+ghost use Rattle.p9_machine.specs.Waits.{AreWaiting};
 ghost use Rattle.p9_machine.specs.Copies.{IsInPlaceOf, IsForSend, IsForRecv, IsForChan, value_sent};
 
 use crate::board::Board;
-use crate::lists::{find_channel, is_receive, is_send, pick_receiver, pick_sender, place};
-use p9_manual::{Channel, Place, Thread, Waiter};
+use crate::lists::{find_channel, is_receive, is_send, pick_receiver, pick_sender};
+use p9_manual::{Channel, Waiter};
+use p9_sched::Sched;
 use p9_word::{Answer, ChanReq, Msg, Reply, Request, Tid};
 
 /// What a request keeps of the bytes that it receives: a discarded value has none.
@@ -54,9 +56,11 @@ fn is_too_long(value: &Option<Msg>, elsize: u32) -> bool
 
 /// Sends a value. `zeros` stands for no value.
 fn send(board: &mut Board, t: Tid, c: u32, value: Option<Msg>, zeros: Msg) -> Reply
-    requires room { HasRoom 2 board.old }
+    requires board { IsBoard board.old }
+    requires runs { IsRunning t board.old.sched }
+    requires room { HasRoom board.old }
     requires zeros { IsForSend value (unfreed (by_id board.old.chans.items c)) zeros }
-    ensures { Gives board.old (send t c value (state_of board.old) (unfreed (by_id board.old.chans.items c))) result board.new }
+    ensures { (line : List ℕ) → IsUsable board.old line → Gives board.old line (send t c value (state_of board.old line) (unfreed (by_id board.old.chans.items c))) result board.new }
 {
     let Some(chan) = find_channel(&board.chans, c) else {
         return Reply::Now(Answer::Bad);
@@ -86,9 +90,11 @@ fn send(board: &mut Board, t: Tid, c: u32, value: Option<Msg>, zeros: Msg) -> Re
 
 /// Receives a value. `zeros` stands for no value.
 fn recv(board: &mut Board, t: Tid, keep: bool, c: u32, zeros: Msg) -> Reply
-    requires room { HasRoom 2 board.old }
+    requires board { IsBoard board.old }
+    requires runs { IsRunning t board.old.sched }
+    requires room { HasRoom board.old }
     requires zeros { IsForRecv (unfreed (by_id board.old.chans.items c)) (pick (λ w. sends_on c w.request) board.old.waits.items) zeros }
-    ensures { Gives board.old (recv t keep c (state_of board.old) (unfreed (by_id board.old.chans.items c))) result board.new }
+    ensures { (line : List ℕ) → IsUsable board.old line → Gives board.old line (recv t keep c (state_of board.old line) (unfreed (by_id board.old.chans.items c))) result board.new }
 {
     let Some(chan) = find_channel(&board.chans, c) else {
         return Reply::Now(Answer::Bad);
@@ -119,8 +125,8 @@ fn recv(board: &mut Board, t: Tid, keep: bool, c: u32, zeros: Msg) -> Reply
 
 /// Closes a channel. Each thread that waits on it becomes ready.
 fn close(board: &mut Board, c: u32) -> Reply
-    requires { HasRoom (length board.old.waits.items) board.old }
-    ensures { Gives board.old (close c (state_of board.old) (unfreed (by_id board.old.chans.items c))) result board.new }
+    requires { IsBoard board.old }
+    ensures { (line : List ℕ) → IsUsable board.old line → Gives board.old line (close c (state_of board.old line) (unfreed (by_id board.old.chans.items c))) result board.new }
 {
     let Some(chan) = find_channel(&board.chans, c) else {
         return Reply::Now(Answer::Bad);
@@ -129,7 +135,7 @@ fn close(board: &mut Board, c: u32) -> Reply
         return Reply::Now(Answer::Number(0));
     }
     set_closed(&mut board.chans, c);
-    wake_all(&mut board.threads, &mut board.line, &board.waits, c);
+    wake_all(&mut board.sched, &board.waits, c);
     drop_waits_on(&mut board.waits, c);
     Reply::Now(Answer::Number(1))
 }
@@ -156,17 +162,17 @@ fn waits_on(waiter: &Waiter, c: u32) -> bool
 }
 
 /// Makes each thread that waits on channel c ready, in the order of the waits.
-fn wake_all(threads: &mut Vec<Thread>, line: &mut Vec<Tid>, waits: &[Waiter], c: u32)
-    requires { vec_len line.old + length waits.now ≤ vec_capacity line.old }
-    ensures threads { threads.new.items ≡ all_closed (filter (waits_on c) waits.now) threads.old.items }
-    ensures line { line.new.items ≡ line.old.items ++ map (λ w. w.tid) (filter (waits_on c) waits.now) }
-    ensures len { vec_len line.new ≤ vec_len line.old + length waits.now }
-    ensures capacity { vec_capacity line.new ≡ vec_capacity line.old }
+fn wake_all(sched: &mut Sched, waits: &[Waiter], c: u32)
+    requires { AreWaiting sched.old.threads waits.now }
+    ensures threads { sched.new.threads ≡ all_closed (filter (waits_on c) waits.now) sched.old.threads }
+    ensures parts { (line : List ℕ) → AreParts sched.old line → AreParts sched.new (line ++ map (λ w. w.tid) (filter (waits_on c) waits.now)) }
+    ensures words { sched.new.words ≡ sched.old.words }
+    ensures opened { sched.new.opened ≡ sched.old.opened }
+    ensures places { length sched.new.lines ≡ length sched.old.lines }
 {
     for w in waits {
         if waits_on(w, c) {
-            place(threads, w.tid, Place::Ready(Answer::Closed));
-            line.push_reserved(w.tid);
+            sched.ready(w.tid, Answer::Closed);
         }
     }
 }
@@ -174,9 +180,11 @@ fn wake_all(threads: &mut Vec<Thread>, line: &mut Vec<Tid>, waits: &[Waiter], c:
 /// A request on channels. `zeros` stands for no value.
 #[tactic(auto, unfolding(p9_manual::specs::Chans::chan_call))]
 pub(crate) fn chan_call(board: &mut Board, t: Tid, request: ChanReq, zeros: Msg) -> Reply
-    requires room { HasRoom (length board.old.waits.items + 2) board.old }
-    requires zeros { IsForChan request (state_of board.old) zeros }
-    ensures { Gives board.old (chan_call board.old.setup t request (state_of board.old)) result board.new }
+    requires board { IsBoard board.old }
+    requires runs { IsRunning t board.old.sched }
+    requires room { HasRoom board.old }
+    requires zeros { IsForChan request (state_of board.old []) zeros }
+    ensures { (line : List ℕ) → IsUsable board.old line → Gives board.old line (chan_call board.old.setup t request (state_of board.old line)) result board.new }
 {
     match request {
         ChanReq::ChanClose { chan } => close(board, chan),

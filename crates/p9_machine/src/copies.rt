@@ -53,6 +53,8 @@ fn copy_answer(answer: &Answer, message: Msg) -> Answer
         },
         Answer::Closed => Answer::Closed,
         Answer::Number(n) => Answer::Number(*n),
+        Answer::Minus => Answer::Minus,
+        Answer::Text(_) => Answer::Text(message),
         Answer::Io(answer) => Answer::Io(copy_io_answer(answer, message)),
         Answer::Bad => Answer::Bad,
     }

@@ -1,5 +1,5 @@
 ghost use Rattle.std.specs.Prelude.{◌≡◌, ◌≤◌, [], length, true, false, OnOk, if◌then◌else◌};
-ghost use Rattle.p9_manual.specs.Threads.{let_go};
+ghost use Rattle.p9_manual.specs.Ends.{let_go, let_all_go};
 ghost use Rattle.p9_manual.specs.Ioprocs.{effect_answer};
 ghost use Rattle.p9_manual.specs.Effects.{got};
 ghost use Rattle.p9_manual.specs.declared.state.Ioproc.TheVariants.{Idle, Unmade};
@@ -57,6 +57,19 @@ fn let_go(ioproc: Ioproc, t: Tid) -> Ioproc
         }
         Ioproc::Begun(None, call) => Ioproc::Begun(None, call),
         Ioproc::Begun(Some(u), call) => Ioproc::Begun(if u == t { None } else { Some(u) }, call),
+        Ioproc::Closed => Ioproc::Closed,
+    }
+}
+
+/// The ioproc without any thread.
+fn abandoned(ioproc: Ioproc) -> Ioproc
+    ensures { result ≡ let_all_go ioproc }
+{
+    match ioproc {
+        Ioproc::Unmade => Ioproc::Unmade,
+        Ioproc::Idle => Ioproc::Idle,
+        Ioproc::Posted(..) => Ioproc::Idle,
+        Ioproc::Begun(_, call) => Ioproc::Begun(None, call),
         Ioproc::Closed => Ioproc::Closed,
     }
 }
@@ -172,6 +185,14 @@ impl Desk {
         ensures here { self.new.is_here ≡ self.old.is_here }
     {
         self.ioproc = let_go(mem::replace(&mut self.ioproc, Ioproc::Idle), t);
+    }
+
+    /// Lets all threads go.
+    pub(crate) fn abandon(&mut self)
+        ensures ioproc { self.new.ioproc ≡ let_all_go self.old.ioproc }
+        ensures here { self.new.is_here ≡ self.old.is_here }
+    {
+        self.ioproc = abandoned(mem::replace(&mut self.ioproc, Ioproc::Idle));
     }
 
     /// Hands out the buffer of the begun call.

@@ -1,7 +1,7 @@
 ghost use Rattle.std.specs.Prelude.{◌≡◌, ◌+◌, ◌-◌, ◌≤◌, ◌<◌, [], Some, length, map, slice_get, true, false, OnSome};
 ghost use Rattle.std.specs.Option.{option_copied};
 ghost use Rattle.p9_manual.specs.State.{by_id, changed};
-ghost use Rattle.p9_manual.specs.Threads.{let_go};
+ghost use Rattle.p9_manual.specs.Ends.{let_go, let_all_go};
 ghost use Rattle.p9_manual.specs.Ioprocs.{effect_answer};
 ghost use Rattle.p9_manual.specs.Effects.{got};
 ghost use Rattle.p9_manual.specs.declared.state.Ioproc.TheVariants.{Idle};
@@ -120,6 +120,19 @@ pub(crate) fn let_all_go(desks: &mut [Desk], t: Tid)
     for i in 0..n {
         let desk = &mut desks[i];
         desk.let_go(t);
+    }
+}
+
+/// Lets all threads go at each ioproc.
+pub(crate) fn abandon_all(desks: &mut [Desk])
+    ensures ioprocs { ioprocs_of desks.new ≡ map let_all_go (ioprocs_of desks.old) }
+    ensures rooms { rooms_of desks.new ≡ rooms_of desks.old }
+    ensures calls { begun_count (ioprocs_of desks.new) ≡ begun_count (ioprocs_of desks.old) }
+{
+    let n = desks.len();
+    for i in 0..n {
+        let desk = &mut desks[i];
+        desk.abandon();
     }
 }
 

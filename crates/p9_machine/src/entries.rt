@@ -1,10 +1,10 @@
-ghost use Rattle.std.specs.Prelude.{◌≡◌, ◌+◌, ◌≤◌, length};
+ghost use Rattle.std.specs.Prelude.{ℕ, ◌≡◌, ◌≤◌, List, length};
 ghost use Rattle.p9_word.specs.declared.trail.Event.TheVariants.{IoDid};
 ghost use Rattle.p9_word.specs.declared.trail.Seat.TheVariants.{Io as IoSeat};
 ghost use Rattle.p9_manual.specs.Ioprocs.{io_event};
 ghost use Rattle.p9_manual.specs.Step.{makes_entry, step};
 ghost use Rattle.p9_manual.specs.History.{with_entry};
-ghost use Rattle.p9_machine.specs.Board.{state_of, calls_of, settled};
+ghost use Rattle.p9_machine.specs.Board.{state_of, calls_of, settled, IsBoard, IsUsable, Stands};
 ghost use Rattle.p9_machine.specs.Desks.{rooms_of};
 ghost use Rattle.p9_machine.specs.Ready.{HasMemory, HasEntries};
 ghost use Rattle.p9_machine.specs.Shown.{rooms_after};
@@ -26,12 +26,14 @@ pub(crate) fn enter(
     reserved: Reserved,
     alloc: Global,
 ) -> Reply
+    requires board { IsBoard board.old }
     requires event { reserved.event ≡ event }
     requires memory { HasMemory board.old reserved }
     requires room { HasEntries board.old entries.old }
     requires counted { board.old.entries ≡ length entries.old.items }
-    ensures reply { result ≡ (step board.old.setup reserved.seat event (state_of board.old)).reply }
-    ensures board { state_of board.new ≡ settled (makes_entry result) (state_of board.old) (step board.old.setup reserved.seat event (state_of board.old)).state }
+    ensures reply { (line : List ℕ) → IsUsable board.old line → result ≡ (step board.old.setup reserved.seat event (state_of board.old line)).reply }
+    ensures board { (line : List ℕ) → IsUsable board.old line → Stands board.new (settled (makes_entry result) (state_of board.old line) (step board.old.setup reserved.seat event (state_of board.old line)).state) }
+    ensures places { length board.new.sched.lines ≡ length board.old.sched.lines }
     ensures entries { entries.new.items ≡ with_entry entries.old.items reserved.seat event result }
     ensures setup { board.new.setup ≡ board.old.setup }
     ensures rooms { rooms_of board.new.desks.items ≡ rooms_after reserved.seat result (rooms_of board.old.desks.items) }
@@ -65,10 +67,12 @@ fn record_at(
     effect: Effect,
     alloc: Global,
 ) -> Reply
+    requires board { IsBoard board.old }
     requires spare { calls_of board.old ≤ entries.old.spare }
     requires counted { board.old.entries ≡ length entries.old.items }
-    ensures reply { result ≡ (step board.old.setup (IoSeat k) (IoDid effect) (state_of board.old)).reply }
-    ensures board { state_of board.new ≡ settled (makes_entry result) (state_of board.old) (step board.old.setup (IoSeat k) (IoDid effect) (state_of board.old)).state }
+    ensures reply { (line : List ℕ) → IsUsable board.old line → result ≡ (step board.old.setup (IoSeat k) (IoDid effect) (state_of board.old line)).reply }
+    ensures board { (line : List ℕ) → IsUsable board.old line → Stands board.new (settled (makes_entry result) (state_of board.old line) (step board.old.setup (IoSeat k) (IoDid effect) (state_of board.old line)).state) }
+    ensures places { length board.new.sched.lines ≡ length board.old.sched.lines }
     ensures entries { entries.new.items ≡ with_entry entries.old.items (IoSeat k) (IoDid effect) result }
     ensures setup { board.new.setup ≡ board.old.setup }
     ensures rooms { rooms_of board.new.desks.items ≡ rooms_after (IoSeat k) result (rooms_of board.old.desks.items) }
@@ -95,10 +99,12 @@ pub(crate) fn record(
     effect: Effect,
     alloc: Global,
 ) -> Reply
+    requires board { IsBoard board.old }
     requires spare { calls_of board.old ≤ entries.old.spare }
     requires counted { board.old.entries ≡ length entries.old.items }
-    ensures reply { result ≡ (step board.old.setup seat (IoDid effect) (state_of board.old)).reply }
-    ensures board { state_of board.new ≡ settled (makes_entry result) (state_of board.old) (step board.old.setup seat (IoDid effect) (state_of board.old)).state }
+    ensures reply { (line : List ℕ) → IsUsable board.old line → result ≡ (step board.old.setup seat (IoDid effect) (state_of board.old line)).reply }
+    ensures board { (line : List ℕ) → IsUsable board.old line → Stands board.new (settled (makes_entry result) (state_of board.old line) (step board.old.setup seat (IoDid effect) (state_of board.old line)).state) }
+    ensures places { length board.new.sched.lines ≡ length board.old.sched.lines }
     ensures entries { entries.new.items ≡ with_entry entries.old.items seat (IoDid effect) result }
     ensures setup { board.new.setup ≡ board.old.setup }
     ensures rooms { rooms_of board.new.desks.items ≡ rooms_after seat result (rooms_of board.old.desks.items) }

@@ -1,11 +1,12 @@
-ghost use Rattle.std.specs.Prelude.{◌≡◌, ◌+◌, ◌≤◌, ◌||◌, not, true, vec_len, vec_capacity};
+ghost use Rattle.std.specs.Prelude.{ℕ, ◌≡◌, ◌+◌, ◌++◌, ◌∷◌, ◌||◌, [], List, Option, Some, None, not, true, length};
 ghost use Rattle.std.specs.List.{list_any};
 ghost use Rattle.p9_word.specs.declared.trail.Seat.TheVariants.{Io as IoSeat};
 ghost use Rattle.p9_manual.specs.Effects.{message_length};
 ghost use Rattle.p9_manual.specs.State.{by_id};
 ghost use Rattle.p9_manual.specs.Places.{lives};
 ghost use Rattle.p9_manual.specs.Ioprocs.{io_call, make, post_call, close_ioproc, take_call, did_call, fits};
-ghost use Rattle.p9_machine.specs.Board.{state_of, calls_of, with_answer, HasRoom, Gives, Follows};
+ghost use Rattle.p9_machine.specs.Board.{state_of, calls_of, with_answer, AreParts, HasRoom, IsBoard, IsUsable, IsRunning, Gives, Follows};
+ghost use Rattle.p9_machine.specs.Waits.{IsWaiting, with_caller};
 ghost use Rattle.p9_machine.specs.Copies.{IsOfCall, IsForIo, IsOfPosted};
 ghost use Rattle.p9_machine.specs.Desks.{ioprocs_of, rooms_of};
 ghost use Rattle.p9_machine.specs.Ready.{HasBuffersFor};
@@ -16,7 +17,6 @@ use crate::board::Board;
 use crate::copies::copy_call;
 use crate::desks::{begin, find_ioproc, finish, set_ioproc};
 use crate::lists::drop_waits_of;
-use crate::next::some_lives;
 use crate::spares::Spares;
 use p9_manual::Ioproc;
 use p9_word::{Answer, Effect, IoAnswer, IoCall, IoReq, Msg, Reply, Request, Tid};
@@ -24,7 +24,7 @@ use std::alloc::Global;
 
 /// An ioproc is made once.
 fn make(board: &mut Board, k: u32) -> Reply
-    ensures { Gives board.old (make k (state_of board.old) (by_id (ioprocs_of board.old.desks.items) k)) result board.new }
+    ensures { (line : List ℕ) → IsUsable board.old line → Gives board.old line (make k (state_of board.old line) (by_id (ioprocs_of board.old.desks.items) k)) result board.new }
 {
     match find_ioproc(&board.desks, k) {
         Some(Ioproc::Unmade) => {
@@ -46,9 +46,10 @@ fn message_len(call: &IoCall) -> usize
 
 /// Posts a call at an idle ioproc; the caller waits for its answer. The message is that of the call.
 fn post_call(board: &mut Board, t: Tid, k: u32, call: IoCall, message: Msg) -> Reply
-    requires room { HasRoom 0 board.old }
+    requires runs { IsRunning t board.old.sched }
+    requires room { HasRoom board.old }
     requires message { IsOfCall call message }
-    ensures { Gives board.old (post_call t k call (state_of board.old) (by_id (ioprocs_of board.old.desks.items) k)) result board.new }
+    ensures { (line : List ℕ) → IsUsable board.old line → Gives board.old line (post_call t k call (state_of board.old line) (by_id (ioprocs_of board.old.desks.items) k)) result board.new }
 {
     match find_ioproc(&board.desks, k) {
         Some(Ioproc::Idle) => {
@@ -66,7 +67,7 @@ fn post_call(board: &mut Board, t: Tid, k: u32, call: IoCall, message: Msg) -> R
 
 /// Closes an idle ioproc.
 fn close_ioproc(board: &mut Board, k: u32) -> Reply
-    ensures { Gives board.old (close_ioproc k (state_of board.old) (by_id (ioprocs_of board.old.desks.items) k)) result board.new }
+    ensures { (line : List ℕ) → IsUsable board.old line → Gives board.old line (close_ioproc k (state_of board.old line) (by_id (ioprocs_of board.old.desks.items) k)) result board.new }
 {
     match find_ioproc(&board.desks, k) {
         Some(Ioproc::Idle) => {
@@ -80,9 +81,10 @@ fn close_ioproc(board: &mut Board, k: u32) -> Reply
 /// A request on ioprocs. The message is that of its call.
 #[tactic(auto, unfolding(p9_manual::specs::Ioprocs::io_call))]
 pub(crate) fn io_call(board: &mut Board, t: Tid, request: IoReq, message: Msg) -> Reply
-    requires room { HasRoom 0 board.old }
+    requires runs { IsRunning t board.old.sched }
+    requires room { HasRoom board.old }
     requires message { IsForIo request message }
-    ensures { Gives board.old (io_call board.old.setup t request (state_of board.old)) result board.new }
+    ensures { (line : List ℕ) → IsUsable board.old line → Gives board.old line (io_call board.old.setup t request (state_of board.old line)) result board.new }
 {
     match request {
         IoReq::IoProc { k } => make(board, k),
@@ -93,17 +95,16 @@ pub(crate) fn io_call(board: &mut Board, t: Tid, request: IoReq, message: Msg) -
 
 /// Whether the run is at its end for each ioproc.
 fn is_over(board: &Board) -> bool
-    ensures { result ≡ (board.now.over || not (list_any lives board.now.threads.items)) }
+    ensures { result ≡ (board.now.over || not (list_any lives board.now.sched.threads)) }
 {
-    board.over || !some_lives(&board.threads)
+    board.over || !board.sched.has_living()
 }
 
 /// An ioproc takes the call that is posted at it.
 pub(crate) fn take_call(board: &mut Board, k: u32, spares: Spares) -> Reply
-    requires room { HasRoom 1 board.old }
     requires buffers { HasBuffersFor (IoSeat k) IoTake (ioprocs_of board.old.desks.items) spares }
     requires message { IsOfPosted (by_id (ioprocs_of board.old.desks.items) k) spares.extra }
-    ensures { Follows board.old (IoSeat k) (take_call k (state_of board.old) (by_id (ioprocs_of board.old.desks.items) k)) result board.new }
+    ensures { (line : List ℕ) → IsUsable board.old line → Follows board.old line (IoSeat k) (take_call k (state_of board.old line) (by_id (ioprocs_of board.old.desks.items) k)) result board.new }
 {
     let is_over = is_over(board);
     match find_ioproc(&board.desks, k) {
@@ -152,8 +153,10 @@ fn fits(call: &IoCall, effect: &Effect) -> bool
 
 /// Wakes the thread that waits for a call, if there is one, with its answer.
 fn answer_caller(board: &mut Board, caller: Option<Tid>, answer: IoAnswer)
-    requires { vec_len board.old.line + 1 + calls_of board.old ≤ vec_capacity board.old.line }
-    ensures state { state_of board.new ≡ with_answer caller answer (state_of board.old) }
+    requires { IsWaiting caller board.old.sched.threads }
+    ensures state { (line : List ℕ) → state_of board.new (with_caller caller line) ≡ with_answer caller answer (state_of board.old line) }
+    ensures parts { (line : List ℕ) → AreParts board.old.sched line → AreParts board.new.sched (with_caller caller line) }
+    ensures places { length board.new.sched.lines ≡ length board.old.sched.lines }
     ensures desks { board.new.desks ≡ board.old.desks }
     ensures setup { board.new.setup ≡ board.old.setup }
 {
@@ -168,7 +171,8 @@ fn answer_caller(board: &mut Board, caller: Option<Tid>, answer: IoAnswer)
 
 /// An ioproc tells what its begun call came to; the thread that waits for it is woken with the answer.
 pub(crate) fn did_call(board: &mut Board, k: u32, effect: &Effect, alloc: Global) -> Reply
-    ensures outcome { Follows board.old (IoSeat k) (did_call k effect.now (state_of board.old) (by_id (ioprocs_of board.old.desks.items) k)) result board.new }
+    requires { IsBoard board.old }
+    ensures outcome { (line : List ℕ) → IsUsable board.old line → Follows board.old line (IoSeat k) (did_call k effect.now (state_of board.old line) (by_id (ioprocs_of board.old.desks.items) k)) result board.new }
     ensures told { makes_entry result ≡ true → result ≡ Reply.Noted }
     ensures fewer { makes_entry result ≡ true → calls_of board.new + 1 ≡ calls_of board.old }
 {

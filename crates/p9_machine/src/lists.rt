@@ -1,21 +1,10 @@
-ghost use Rattle.std.specs.Prelude.{◌≡◌, ◌≤◌, MatchOption, vec_len, vec_capacity, position, not, ◌==◌};
+ghost use Rattle.std.specs.Prelude.{◌≡◌, MatchOption, vec_capacity, position};
 ghost use Rattle.std.specs.Option.{option_copied};
-ghost use Rattle.p9_manual.specs.State.{by_id, pick, placed, waits_without};
+ghost use Rattle.p9_manual.specs.State.{by_id, pick, waits_without};
 ghost use Rattle.p9_manual.specs.Chans.{sends_on, receives_on, unfreed};
-ghost use Rattle.std.specs.List.{filter};
 
-use p9_manual::{Channel, Place, Thread, Waiter};
+use p9_manual::{Channel, Waiter};
 use p9_word::{ChanReq, Request, Tid};
-
-/// Puts a thread at a place.
-pub(crate) fn place(threads: &mut [Thread], t: Tid, place: Place)
-    ensures { threads.new ≡ placed t place threads.old }
-{
-    let i = (t as usize).saturating_sub(1);
-    if i < threads.len() {
-        threads[i].place = place;
-    }
-}
 
 /// A channel that was made and was not freed.
 pub(crate) fn find_channel(chans: &[Channel], c: u32) -> Option<&Channel>
@@ -91,13 +80,4 @@ pub(crate) fn drop_waits_of(waits: &mut Vec<Waiter>, t: Tid)
     ensures { waits.new.items ≡ waits_without t waits.old.items }
 {
     waits.retain(|w| w.tid != t);
-}
-
-/// Takes thread t out of the line.
-pub(crate) fn drop_from_line(line: &mut Vec<Tid>, t: Tid)
-    ensures items { line.new.items ≡ filter (λ u. not (u == t)) line.old.items }
-    ensures len { vec_len line.new ≤ vec_len line.old }
-    ensures capacity { vec_capacity line.new ≡ vec_capacity line.old }
-{
-    line.retain(|u| *u != t);
 }

@@ -10,6 +10,7 @@ use crate::board::Board;
 use crate::desks::{begun_count, lend};
 use crate::entries::{enter, record};
 use crate::reserve::{Reserved, reserved_for};
+use p9_manual::laws::soundness::states_are_sound;
 use p9_word::{Effect, Event, NoMemory, Reply, Room, Seat, Setup, Trail};
 use std::alloc::Global;
 use std::marker::Model;
@@ -113,6 +114,7 @@ impl Machine {
         let Some(reserved) = self.reserved.take() else {
             unreachable!();
         };
+        states_are_sound(&self.board.setup, self.trail.entries.as_slice());
         enter(
             &mut self.board,
             &mut self.trail.entries,
@@ -127,6 +129,7 @@ impl Machine {
         ensures machine { self.new ≡ after_event self.old seat (IoDid effect) result }
     {
         self.reserved = None;
+        states_are_sound(&self.board.setup, self.trail.entries.as_slice());
         record(
             &mut self.board,
             &mut self.trail.entries,

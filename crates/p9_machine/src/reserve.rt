@@ -1,9 +1,9 @@
-ghost use Rattle.std.specs.Prelude.{◌≡◌, [], IfOk, OnOk, length};
+ghost use Rattle.std.specs.Prelude.{ℕ, ◌≡◌, [], List, IfOk, length};
 ghost use Rattle.p9_manual.specs.State.{by_id, pick};
 ghost use Rattle.p9_manual.specs.Chans.{sends_on, unfreed};
-ghost use Rattle.p9_manual.specs.Places.{is_of};
-ghost use Rattle.p9_machine.specs.Copies.{IsOfCall, IsOfAnswer, IsOfIoAnswer, IsOfPlace, IsOfThread, IsOfPicked, IsOfPosted, IsInPlaceOf, IsForSend, IsForRecv, IsForChan, IsForIo, IsForRequest, IsForEvent, IsTold, value_sent};
-ghost use Rattle.p9_machine.specs.Board.{state_of, calls_of};
+ghost use Rattle.p9_machine.specs.Copies.{IsOfCall, IsOfAnswer, IsOfIoAnswer, IsOfNext, IsOfPosted, IsInPlaceOf, IsForSend, IsForRecv, IsForChan, IsForIo, IsForThread, IsNameOf, IsForRequest, IsToldAtOnce, IsForEvent, IsTold, value_sent};
+ghost use Rattle.p9_sched.specs.Turns.{answer_next};
+ghost use Rattle.p9_machine.specs.Board.{state_of, calls_of, AreParts};
 ghost use Rattle.p9_machine.specs.Desks.{ioprocs_of, rooms_of};
 ghost use Rattle.p9_machine.specs.Ready.{HasMemory, HasBuffersFor, room_needed};
 
@@ -11,11 +11,14 @@ use crate::board::Board;
 use crate::desk::Desk;
 use crate::desks::{find_ioproc, taken_room};
 use crate::lists::{find_channel, first_sender};
-use crate::next::first_turn;
+use crate::next::is_place;
 use crate::spares::Spares;
-use p9_manual::{Channel, Ioproc, Place, Thread, Waiter};
+use crate::threads::is_made;
+use p9_manual::{Channel, Ioproc, Waiter};
+use p9_sched::Sched;
 use p9_word::{
-    Answer, ChanReq, Datum, Event, IoAnswer, IoCall, IoReq, Msg, NoMemory, Request, Room, Seat, Tid,
+    Answer, ChanReq, Datum, Event, IoAnswer, IoCall, IoReq, Msg, NoMemory, Request, Room, Seat,
+    ThreadReq, Tid,
 };
 use std::alloc::Global;
 
@@ -86,10 +89,32 @@ fn message_of_call(call: &IoCall) -> Result<Msg, NoMemory>
     }
 }
 
-fn for_request(board: &Board, request: &Request, alloc: Global) -> Result<Msg, NoMemory>
-    ensures { IfOk result (λ m. IsForRequest request.now (state_of board.now) m) }
+/// A copy of the name of a thread.
+fn name_of(sched: &Sched, t: Tid, alloc: Global) -> Result<Msg, NoMemory>
+    ensures { IfOk result (λ m. IsNameOf (by_id sched.now.threads t) m) }
+{
+    if is_made(sched, t) {
+        Msg::from_slice(alloc, sched.name(t))
+    } else {
+        Ok(Msg::new())
+    }
+}
+
+/// What a request of thread t on threads needs: its name, where it asks for that.
+fn for_thread(sched: &Sched, t: Tid, request: &ThreadReq, alloc: Global) -> Result<Msg, NoMemory>
+    ensures { IfOk result (λ m. IsForThread request.now (by_id sched.now.threads t) m) }
 {
     match request {
+        ThreadReq::ThreadGetName => name_of(sched, t, alloc),
+        _ => Ok(Msg::new()),
+    }
+}
+
+fn for_request(board: &Board, t: Tid, request: &Request, alloc: Global) -> Result<Msg, NoMemory>
+    ensures { IfOk result (λ m. IsForRequest t request.now (state_of board.now []) m) }
+{
+    match request {
+        Request::Thread(request) => for_thread(&board.sched, t, request, alloc),
         Request::Chan(ChanReq::Send { chan, value }) => {
             for_send(&board.chans, *chan, value, alloc)
         }
@@ -117,33 +142,22 @@ fn message_of_answer(answer: &Answer) -> Result<Msg, NoMemory>
 {
     match answer {
         Answer::Got { msg, .. } => msg.copy(),
+        Answer::Text(text) => text.copy(),
         Answer::Io(IoAnswer::Bytes(bytes)) => bytes.copy(),
         _ => Ok(Msg::new()),
     }
 }
 
-/// A copy of the message of the answer that a thread goes on with.
-fn message_of_thread(threads: &[Thread], t: Tid) -> Result<Msg, NoMemory>
-    ensures { IfOk result (λ m. IsOfThread (by_id threads.now t) m) }
-{
-    if t == 0 {
-        return Ok(Msg::new());
-    }
-    let Some(thread) = threads.get(t as usize - 1) else {
-        return Ok(Msg::new());
-    };
-    match &thread.place {
-        Place::Ready(answer) => message_of_answer(answer),
-        _ => Ok(Msg::new()),
-    }
-}
-
 /// A copy of the message of the answer that the next thread of proc p goes on with.
-fn message_of_next(threads: &[Thread], line: &[Tid], p: u32) -> Result<Msg, NoMemory>
-    ensures { IfOk result (λ m. IsOfPicked (pick (λ t. is_of p (by_id threads.now t)) line.now) threads.now m) }
+fn message_of_next(board: &Board, p: u32) -> Result<Msg, NoMemory>
+    requires { length board.now.sched.lines ≡ board.now.setup.places }
+    ensures { IfOk result (λ m. IsOfNext (answer_next p board.now.sched) m) }
 {
-    match first_turn(threads, line, p) {
-        Some(at) => message_of_thread(threads, line[at]),
+    if !is_place(&board.setup, p) {
+        return Ok(Msg::new());
+    }
+    match board.sched.next_answer(p) {
+        Some(answer) => message_of_answer(answer),
         None => Ok(Msg::new()),
     }
 }
@@ -155,21 +169,38 @@ pub(crate) fn extra_for(
     event: &Event,
     alloc: Global,
 ) -> Result<Msg, NoMemory>
-    ensures { IfOk result (λ m. IsForEvent seat event.now (state_of board.now) m) }
+    ensures { IfOk result (λ m. IsForEvent seat event.now (state_of board.now []) m) }
 {
     match (seat, event) {
-        (Seat::Proc(_), Event::Call(_, request)) => for_request(board, request, alloc),
+        (Seat::Proc(_), Event::Call(t, request)) => for_request(board, *t, request, alloc),
         (Seat::Io(k), Event::IoTake) => message_posted(&board.desks, k),
         _ => Ok(Msg::new()),
     }
 }
 
+/// The message of an answer at once to a request of thread t.
+fn told_at_once(board: &Board, t: Tid, request: &Request, alloc: Global) -> Result<Msg, NoMemory>
+    ensures { IfOk result (λ m. IsToldAtOnce t request.now (state_of board.now []) m) }
+{
+    match request {
+        Request::Thread(request) => for_thread(&board.sched, t, request, alloc),
+        _ => Ok(Msg::new()),
+    }
+}
+
 /// The message that the entry's copy of the reply needs.
-pub(crate) fn told_for(board: &Board, seat: Seat, event: &Event) -> Result<Msg, NoMemory>
-    ensures { IfOk result (λ m. IsTold seat event.now (state_of board.now) m) }
+pub(crate) fn told_for(
+    board: &Board,
+    seat: Seat,
+    event: &Event,
+    alloc: Global,
+) -> Result<Msg, NoMemory>
+    requires { length board.now.sched.lines ≡ board.now.setup.places }
+    ensures { IfOk result (λ m. IsTold seat event.now (state_of board.now []) board.now.sched m) }
 {
     match (seat, event) {
-        (Seat::Proc(p), Event::Next) => message_of_next(&board.threads, &board.line, p),
+        (Seat::Proc(_), Event::Call(t, request)) => told_at_once(board, *t, request, alloc),
+        (Seat::Proc(p), Event::Next) => message_of_next(board, p),
         (Seat::Io(k), Event::IoTake) => message_posted(&board.desks, k),
         _ => Ok(Msg::new()),
     }
@@ -187,7 +218,7 @@ fn room_for(board: &Board, seat: Seat, event: &Event) -> usize
 
 /// What an event needs beside its own.
 fn spares_for(board: &Board, seat: Seat, event: &Event, alloc: Global) -> Result<Spares, NoMemory>
-    ensures extra { IfOk result (λ s. IsForEvent seat event.now (state_of board.now) s.extra) }
+    ensures extra { IfOk result (λ s. IsForEvent seat event.now (state_of board.now []) s.extra) }
     ensures buffers { IfOk result (HasBuffersFor seat event.now (ioprocs_of board.now.desks.items)) }
 {
     let extra = extra_for(board, seat, event, alloc)?;
@@ -210,7 +241,10 @@ pub(crate) fn reserved_for(
     event: &Event,
     alloc: Global,
 ) -> Result<Reserved, NoMemory>
-    ensures state { state_of board.new ≡ state_of board.old }
+    requires { length board.old.sched.lines ≡ board.old.setup.places }
+    ensures state { (line : List ℕ) → state_of board.new line ≡ state_of board.old line }
+    ensures parts { (line : List ℕ) → AreParts board.old.sched line → AreParts board.new.sched line }
+    ensures places { length board.new.sched.lines ≡ length board.old.sched.lines }
     ensures setup { board.new.setup ≡ board.old.setup }
     ensures rooms { rooms_of board.new.desks.items ≡ rooms_of board.old.desks.items }
     ensures calls { calls_of board.new ≡ calls_of board.old }
@@ -220,7 +254,7 @@ pub(crate) fn reserved_for(
     board.make_room()?;
     let copy = event.copied(alloc)?;
     let spares = spares_for(board, seat, event, alloc)?;
-    let told = told_for(board, seat, event)?;
+    let told = told_for(board, seat, event, alloc)?;
     Ok(Reserved {
         seat,
         event: copy,

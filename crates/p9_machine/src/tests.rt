@@ -244,3 +244,156 @@ fn hands_values_over(rt: HostRuntime) -> Result<(), Fail> {
     assert_eq!(rt; m.trail().entries.as_slice().len(), 16);
     Ok(())
 }
+
+/// A request of thread t in proc p, and the reply that it must get.
+fn asks(
+    rt: &impl Abort,
+    machine: &mut Machine,
+    (p, t): (u32, Tid),
+    request: ThreadReq,
+    reply: Reply,
+) -> Result<(), NoMemory> {
+    let event = Event::Call(t, Request::Thread(request));
+    happens(rt, machine, Seat::Proc(p), event, reply)
+}
+
+/// What proc p must run next.
+fn runs(rt: &impl Abort, machine: &mut Machine, p: u32, reply: Reply) -> Result<(), NoMemory> {
+    happens(rt, machine, Seat::Proc(p), Event::Next, reply)
+}
+
+fn create(program: u32, arg: u64) -> ThreadReq {
+    ThreadReq::ThreadCreate { program, arg }
+}
+
+fn open(program: u32, arg: u64) -> ThreadReq {
+    ThreadReq::ProcCreate { program, arg }
+}
+
+fn pid(tid: Tid) -> ThreadReq {
+    ThreadReq::ThreadPid { tid }
+}
+
+fn set_group(group: u32) -> ThreadReq {
+    ThreadReq::ThreadSetGrp { group }
+}
+
+fn set_name(name: Msg) -> ThreadReq {
+    ThreadReq::ThreadSetName { name }
+}
+
+fn set_word(word: u64) -> ThreadReq {
+    ThreadReq::ThreadSetWord { word }
+}
+
+fn set_proc_word(word: u64) -> ThreadReq {
+    ThreadReq::ProcSetWord { word }
+}
+
+fn number(n: u64) -> Reply {
+    Reply::Now(Answer::Number(n))
+}
+
+fn text(text: Msg) -> Reply {
+    Reply::Now(Answer::Text(text))
+}
+
+fn done() -> Reply {
+    Reply::Now(Answer::Done)
+}
+
+fn minus() -> Reply {
+    Reply::Now(Answer::Minus)
+}
+
+fn bad() -> Reply {
+    Reply::Now(Answer::Bad)
+}
+
+/// A machine with two programs, so many proc places and one thread, which runs in proc 1.
+fn one_thread(rt: &impl Abort, alloc: Global, places: u32) -> Result<Machine, NoMemory> {
+    let mut start = setup(alloc, 1, 0)?;
+    start.places = places;
+    start.programs = 2;
+    assert!(rt; start.is_valid());
+    let mut m = Machine::new(alloc, &start)?;
+    runs(rt, &mut m, 1, Reply::Begin(1, 1, 7))?;
+    Ok(m)
+}
+
+#[test]
+fn runs_threads_and_procs_by_turns(rt: HostRuntime) -> Result<(), Fail> {
+    let alloc = rt.alloc();
+    let mut m = one_thread(&rt, alloc, 2)?;
+    asks(&rt, &mut m, (1, 1), create(2, 5), number(2))?;
+    asks(&rt, &mut m, (1, 1), open(2, 6), Reply::Waits)?;
+    runs(&rt, &mut m, 2, Reply::Begin(3, 2, 6))?;
+    runs(&rt, &mut m, 1, Reply::Begin(2, 2, 5))?;
+    asks(&rt, &mut m, (2, 2), ThreadReq::Yield, Reply::Stray)?;
+    asks(&rt, &mut m, (1, 2), ThreadReq::Yield, Reply::Waits)?;
+    runs(&rt, &mut m, 1, Reply::Turn(1, Answer::Number(3)))?;
+    asks(&rt, &mut m, (1, 1), open(2, 7), minus())?;
+    let text = Msg::from_slice(alloc, b"x")?;
+    let end = ThreadReq::ThreadExitsAll { text };
+    asks(&rt, &mut m, (1, 1), end, Reply::Ended)?;
+    runs(&rt, &mut m, 2, Reply::Over)?;
+    Ok(())
+}
+
+#[test]
+fn keeps_groups_and_words(rt: HostRuntime) -> Result<(), Fail> {
+    let mut m = one_thread(&rt, rt.alloc(), 1)?;
+    asks(&rt, &mut m, (1, 1), ThreadReq::ThreadId, number(1))?;
+    asks(&rt, &mut m, (1, 1), pid(1), number(1))?;
+    asks(&rt, &mut m, (1, 1), pid(2), bad())?;
+    asks(&rt, &mut m, (1, 1), ThreadReq::ThreadGetGrp, number(0))?;
+    asks(&rt, &mut m, (1, 1), set_group(7), number(0))?;
+    // What is refused uses up no id.
+    asks(&rt, &mut m, (1, 1), create(0, 9), bad())?;
+    asks(&rt, &mut m, (1, 1), create(3, 9), bad())?;
+    asks(&rt, &mut m, (1, 1), open(2, 9), minus())?;
+    asks(&rt, &mut m, (1, 1), create(2, 9), number(2))?;
+    asks(&rt, &mut m, (1, 1), set_word(3), done())?;
+    asks(&rt, &mut m, (1, 1), ThreadReq::ThreadWord, number(3))?;
+    asks(&rt, &mut m, (1, 1), ThreadReq::ProcWord, number(0))?;
+    asks(&rt, &mut m, (1, 1), set_proc_word(5), done())?;
+    let end = ThreadReq::ThreadExits { text: Msg::new() };
+    asks(&rt, &mut m, (1, 1), end, Reply::Ended)?;
+    // The new thread is in the group and in the proc of the one that made it, and has its own word.
+    runs(&rt, &mut m, 1, Reply::Begin(2, 2, 9))?;
+    asks(&rt, &mut m, (1, 2), ThreadReq::ThreadGetGrp, number(7))?;
+    asks(&rt, &mut m, (1, 2), ThreadReq::ThreadWord, number(0))?;
+    asks(&rt, &mut m, (1, 2), ThreadReq::ProcWord, number(5))?;
+    asks(&rt, &mut m, (1, 2), pid(1), number(1))?;
+    Ok(())
+}
+
+/// A name of so many bytes.
+fn name(alloc: Global, len: usize) -> Result<Msg, NoMemory> {
+    let bytes = vec![in alloc; b'n'; len]?;
+    Msg::from_slice(alloc, bytes.as_slice())
+}
+
+#[test]
+fn keeps_names_of_1_to_64_bytes(rt: HostRuntime) -> Result<(), Fail> {
+    let alloc = rt.alloc();
+    let mut m = one_thread(&rt, alloc, 1)?;
+    asks(&rt, &mut m, (1, 1), set_name(name(alloc, 0)?), bad())?;
+    asks(&rt, &mut m, (1, 1), set_name(name(alloc, 65)?), bad())?;
+    let none = text(Msg::new());
+    asks(&rt, &mut m, (1, 1), ThreadReq::ThreadGetName, none)?;
+    asks(&rt, &mut m, (1, 1), set_name(name(alloc, 64)?), done())?;
+    let whole = text(name(alloc, 64)?);
+    asks(&rt, &mut m, (1, 1), ThreadReq::ThreadGetName, whole)?;
+    Ok(())
+}
+
+#[test]
+fn makes_65536_threads(rt: HostRuntime) -> Result<(), Fail> {
+    let mut m = one_thread(&rt, rt.alloc(), 1)?;
+    for id in 2..65537 {
+        asks(&rt, &mut m, (1, 1), create(2, 0), number(id))?;
+    }
+    asks(&rt, &mut m, (1, 1), create(2, 0), minus())?;
+    Ok(())
+}

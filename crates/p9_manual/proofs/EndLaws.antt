@@ -1,9 +1,8 @@
 -- What tells the end of a run: a run whose turns are over ends with Stuck, or none of its threads lives.
-use Rattle.std.proofs.Common.{◌≡◌, ℕ, ◌-◌, ◌≤◌, Bool, true, false, not, cond, ◌&&◌, ◌||◌, eqb, leb, List, [], ◌∷◌, length, Option, Some, None, refl, ◌∙◌, inl, inr, arith}
-use Rattle.std.specs.Prelude.{slice_get, All}
+use Rattle.std.proofs.Common.{◌≡◌, ◌⊎◌, ℕ, ◌-◌, ◌≤◌, Bool, true, false, not, cond, ◌&&◌, ◌||◌, eqb, leb, List, [], ◌∷◌, length, Option, Some, None, refl, inl, inr, arith}
+use Rattle.std.specs.Prelude.{slice_get}
 use Rattle.std.specs.List.{list_any, fold}
-use Rattle.std.proofs.lemmas.Bool.{le-leb}
-use Rattle.std.proofs.lemmas.List.Elements.{All-head, All-tail}
+use Rattle.std.proofs.lemmas.Bool.{le-leb, or_parts}
 use Rattle.p9_word.specs.Setup.{IsValid}
 use Rattle.p9_word.specs.declared.io_call.Effect.{Effect}
 use Rattle.p9_word.specs.declared.request.Request.{Request}
@@ -21,21 +20,21 @@ use Rattle.p9_manual.specs.declared.state.Ioproc.TheVariants.{Unmade, Idle, Post
 use Rattle.p9_manual.specs.State.{State, Outcome, by_id, pick, same}
 use Rattle.p9_manual.specs.Places.{lives, lives_in, runs, runs_in, runs_there, stands_ready, has_call, is_of, is_ended, is_running}
 use Rattle.p9_manual.specs.Stuck.{is_stuck}
-use Rattle.p9_manual.specs.Sound.{IsThreadIn}
 use Rattle.p9_manual.specs.Ioprocs.{take_call, did_call, io_event}
 use Rattle.p9_manual.specs.Next.{next_event, next_of, turn, is_place, is_over}
 use Rattle.p9_manual.specs.Step.{step, outcome, called, served, makes_entry}
 use Rattle.p9_manual.specs.History.{IsLegal, IsLegalFrom, after_entry, begin_state, state_after}
 use Rattle.p9_manual.specs.RunReplies.{reply_at}
 use Rattle.p9_manual.specs.Ending.{is_stuck_reply, stuck_at, HasEnded, EndsOver}
-use Rattle.p9_manual.proofs.Tallies.{tally, tally-at, tally_none}
+use Rattle.p9_manual.proofs.Tallies.{tally, tally-at, tally_none, none_tally, none_first}
 use Rattle.p9_manual.proofs.Standing.{place_runs, get_by_id}
 use Rattle.p9_manual.proofs.RunMoves.{IsUpright, same_id}
-use Rattle.p9_manual.proofs.RunCalls.{served_served}
+use Rattle.p9_manual.proofs.RunAsked.{served_called}
 use Rattle.p9_manual.proofs.RunTurns.{io_served}
-use Rattle.p9_manual.proofs.RunHistory.{step_stepped, kept_after}
-use Rattle.p9_manual.proofs.RunLaws.{over_cause}
-use Rattle.p9_manual.proofs.Sound.Histories.{state_sound}
+use Rattle.p9_manual.proofs.RunSteps.{IsStepped, step_stepped}
+use Rattle.p9_manual.proofs.RunMembers.{is_outside, proc_at}
+use Rattle.p9_manual.proofs.RunHistory.{kept_after}
+use Rattle.p9_manual.proofs.RunLaws.{over_cause, lives_shut}
 
 -- in a state that is stuck no thread runs, and no ioproc has a call
 stuck_parts : (a b c d : Bool) → (a && not b && not c && not d) ≡ true → (b ≡ false) × (d ≡ false)
@@ -113,30 +112,33 @@ step_silent : (setup : Setup) (seat : Seat) (event : Event) (s : State) → s.ov
 unfolding step
 step_silent setup seat event s over stuck = outcome_silent setup seat event s over stuck
 
--- the run is brought to its end by Stuck alone, in a state that is stuck
-record OverByStuck (o : Outcome) : Type 0 where
-  cause : o.state.over ≡ true → (is_stuck o.state ≡ true) × (is_stuck_reply o.reply ≡ true)
+-- the run is brought to its end by Stuck, in a state that is stuck, or by the end of all threads
+record IsEndRight (o : Outcome) : Type 0 where
+  cause : o.state.over ≡ true → ((is_stuck o.state ≡ true) × (is_stuck_reply o.reply ≡ true)) ⊎ (tally lives o.state.threads ≡ 0)
 
-goes_on : (s : State) (o : Outcome) → s.over ≡ false → o.state.over ≡ s.over → OverByStuck o
+goes_on : (s : State) (o : Outcome) → s.over ≡ false → o.state.over ≡ s.over → IsEndRight o
 goes_on s o going is = record { cause = λ h. absurd (cc (going, is, h)) }
 
-if_over : (b : Bool) (o p : Outcome) → (b ≡ true → OverByStuck o) → (b ≡ false → OverByStuck p) → OverByStuck (cond b o p)
+if_over : (b : Bool) (o p : Outcome) → (b ≡ true → IsEndRight o) → (b ≡ false → IsEndRight p) → IsEndRight (cond b o p)
 if_over true o p f g = f refl
 if_over false o p f g = g refl
 
-called_over : (setup : Setup) (b : Bool) (p t : ℕ) (r : Request) (s : State) → runs_there p (by_id s.threads t) ≡ b → IsUpright s → s.over ≡ false → OverByStuck (cond b (served setup t r s) (same Stray s))
-called_over setup true p t r s e upright going = goes_on s _ going (served_served setup t r s upright (place_runs p (by_id s.threads t) e)).over
+called_over : (setup : Setup) (b : Bool) (p t : ℕ) (r : Request) (s : State) → runs_there p (by_id s.threads t) ≡ b → IsUpright s → s.over ≡ false → IsEndRight (cond b (served setup t r s) (same Stray s))
+called_over setup true p t r s e upright going = elim ((served_called setup t r s upright (place_runs p (by_id s.threads t) e)).ending) [
+  | inl same ↦ goes_on s _ going same
+  | inr none ↦ record { cause = λ h. inr none }
+]
 called_over setup false p t r s e upright going = goes_on s _ going refl
 
-turn_over : (t : ℕ) (s : State) (o : Option (ℕ × ℕ × Place)) → s.over ≡ false → OverByStuck (turn t s o)
+turn_over : (t : ℕ) (s : State) (o : Option (ℕ × ℕ × Place)) → s.over ≡ false → IsEndRight (turn t s o)
 turn_over t s None going = goes_on s _ going refl
 turn_over t s (Some start) going = goes_on s _ going refl
 
-next_of_over : (s : State) (o : Option (ℕ × List ℕ)) → s.over ≡ false → OverByStuck (next_of s o)
-next_of_over s None going = if_over (is_stuck s) _ _ (λ e. record { cause = λ h. (e, refl) }) (λ e. goes_on s (same IdleReply s) going refl)
+next_of_over : (s : State) (o : Option (ℕ × List ℕ)) → s.over ≡ false → IsEndRight (next_of s o)
+next_of_over s None going = if_over (is_stuck s) _ _ (λ e. record { cause = λ h. inl (e, refl) }) (λ e. goes_on s (same IdleReply s) going refl)
 next_of_over s (Some found) going = turn_over found.0 (record s { line = found.1 }) _ going
 
-next_over : (setup : Setup) (p : ℕ) (s : State) → s.over ≡ false → OverByStuck (next_event setup p s)
+next_over : (setup : Setup) (p : ℕ) (s : State) → s.over ≡ false → IsEndRight (next_event setup p s)
 unfolding next_event
 next_over setup p s going =
     if_over (not (is_place setup p)) _ _ (λ e. goes_on s (same Stray s) going refl)
@@ -144,7 +146,7 @@ next_over setup p s going =
     (λ e. if_over (list_any (runs_in p) s.threads) _ _ (λ e. goes_on s (same Stray s) going refl)
     (λ e. next_of_over s (pick (λ t. is_of p (by_id s.threads t)) s.line) going)))
 
-outcome_over : (setup : Setup) (seat : Seat) (event : Event) (s : State) → IsUpright s → s.over ≡ false → OverByStuck (outcome setup seat event s)
+outcome_over : (setup : Setup) (seat : Seat) (event : Event) (s : State) → IsUpright s → s.over ≡ false → IsEndRight (outcome setup seat event s)
 unfolding outcome called
 outcome_over setup (Proc p) (Call t r) s upright going = called_over setup _ p t r s refl upright going
 outcome_over setup (Proc p) Next s upright going = next_over setup p s going
@@ -155,43 +157,52 @@ outcome_over setup (IoSeat k) (IoDid effect) s upright going = goes_on s _ going
 outcome_over setup (IoSeat k) (Call t r) s upright going = goes_on s _ going refl
 outcome_over setup (IoSeat k) Next s upright going = goes_on s _ going refl
 
-step_over : (setup : Setup) (seat : Seat) (event : Event) (s : State) → IsUpright s → s.over ≡ false → OverByStuck (step setup seat event s)
+step_over : (setup : Setup) (seat : Seat) (event : Event) (s : State) → IsUpright s → s.over ≡ false → IsEndRight (step setup seat event s)
 unfolding step
 step_over setup seat event s upright going = record { cause = (outcome_over setup seat event s upright going).cause }
 
+-- a run is at its end right after Stuck, or where no thread lives
+abbrev HasCause : State → Option Entry → Type 0
+HasCause s last = ((is_stuck s ≡ true) × (stuck_at last ≡ true)) ⊎ (tally lives s.threads ≡ 0)
+
 -- what holds of the state after a history, and of its last entry
-record IsEnding (n : ℕ) (s : State) (last : Option Entry) : Type 0 where
+record IsEnding (s : State) (last : Option Entry) : Type 0 where
   upright : IsUpright s
-  opened : s.opened ≡ n
-  stuck : s.over ≡ true → (is_stuck s ≡ true) × (stuck_at last ≡ true)
+  cause : s.over ≡ true → HasCause s last
 
-entry_stuck : (setup : Setup) (n : ℕ) (s : State) (last : Option Entry) (e : Entry) (b : Bool) → s.over ≡ b → e.reply ≡ (step setup e.seat e.event s).reply → makes_entry (step setup e.seat e.event s).reply ≡ true → IsEnding n s last → (after_entry setup s e).over ≡ true → (is_stuck (after_entry setup s e) ≡ true) × (stuck_at (Some e) ≡ true)
-entry_stuck setup n s last e true over is makes ending h =
-    absurd (let silent = step_silent setup e.seat e.event s over (ending.stuck over).0 in cc (silent, makes))
-entry_stuck setup n s last e false over is makes ending h =
-    let parts = (step_over setup e.seat e.event s ending.upright over).cause h in
-    (parts.0, rw is parts.1)
+-- where no thread lives, none comes to live
+none_still : (setup : Setup) (s : State) (o : Outcome) → IsStepped setup s o → tally lives s.threads ≡ 0 → tally lives o.state.threads ≡ 0
+none_still setup s o is none = let k = is.tallies lives (lives_shut setup s o.state.opened none) in omega (arith, k, none)
 
-entry_ending : (setup : Setup) (n : ℕ) (s : State) (last : Option Entry) (e : Entry) → e.reply ≡ (step setup e.seat e.event s).reply → makes_entry e.reply ≡ true → IsEnding n s last → IsEnding n (after_entry setup s e) (Some e)
-entry_ending setup n s last e is makes ending =
+entry_cause : (setup : Setup) (s : State) (last : Option Entry) (e : Entry) (b : Bool) → s.over ≡ b → e.reply ≡ (step setup e.seat e.event s).reply → makes_entry (step setup e.seat e.event s).reply ≡ true → IsEnding s last → (after_entry setup s e).over ≡ true → HasCause (after_entry setup s e) (Some e)
+entry_cause setup s last e true over is makes ending h = elim (ending.cause over) [
+  | inl parts ↦ absurd (let silent = step_silent setup e.seat e.event s over parts.0 in cc (silent, makes))
+  | inr none ↦ inr (none_still setup s _ (step_stepped setup e.seat e.event s ending.upright makes) none)
+]
+entry_cause setup s last e false over is makes ending h = elim ((step_over setup e.seat e.event s ending.upright over).cause h) [
+  | inl parts ↦ inl (parts.0, rw is parts.1)
+  | inr none ↦ inr none
+]
+
+entry_ending : (setup : Setup) (s : State) (last : Option Entry) (e : Entry) → e.reply ≡ (step setup e.seat e.event s).reply → makes_entry e.reply ≡ true → IsEnding s last → IsEnding (after_entry setup s e) (Some e)
+entry_ending setup s last e is makes ending =
     let now = rw is at makes in
-    let stepped = step_stepped setup e.seat e.event s ending.upright now in
-    record { upright = stepped.upright; opened = stepped.opened ∙ ending.opened; stuck = λ h. entry_stuck setup n s last e s.over refl is now ending h }
+    record { upright = (step_stepped setup e.seat e.event s ending.upright now).upright; cause = λ h. entry_cause setup s last e s.over refl is now ending h }
 
 -- the last of these entries, or the one before them
 abbrev last_of : Option Entry → List Entry → Option Entry
 last_of last [] = last
 last_of last (e ∷ H) = last_of (Some e) H
 
-fold_ending : (setup : Setup) (n : ℕ) (H : List Entry) (s : State) (last : Option Entry) → IsLegalFrom setup s H → IsEnding n s last → IsEnding n (fold (after_entry setup) s H) (last_of last H)
-fold_ending setup n [] s last legal ending = ending
-fold_ending setup n (e ∷ H) s last legal ending =
-    fold_ending setup n H (after_entry setup s e) (Some e) legal.2 (entry_ending setup n s last e legal.0 legal.1 ending)
+fold_ending : (setup : Setup) (H : List Entry) (s : State) (last : Option Entry) → IsLegalFrom setup s H → IsEnding s last → IsEnding (fold (after_entry setup) s H) (last_of last H)
+fold_ending setup [] s last legal ending = ending
+fold_ending setup (e ∷ H) s last legal ending =
+    fold_ending setup H (after_entry setup s e) (Some e) legal.2 (entry_ending setup s last e legal.0 legal.1 ending)
 
-history_ending : (setup : Setup) (H : List Entry) → IsLegal setup H → IsEnding setup.opened (state_after setup H) (last_of None H)
+history_ending : (setup : Setup) (H : List Entry) → IsLegal setup H → IsEnding (state_after setup H) (last_of None H)
 unfolding state_after
 history_ending setup H legal =
-    fold_ending setup setup.opened H (begin_state setup) None legal (record { upright = (kept_after setup [] tt).upright; opened = refl; stuck = λ h. cc })
+    fold_ending setup H (begin_state setup) None legal (record { upright = (kept_after setup [] tt).upright; cause = λ h. cc })
 
 last_is : (e : Entry) (H : List Entry) → slice_get (e ∷ H) (length H) ≡ last_of (Some e) H
 last_is e [] = refl
@@ -211,31 +222,31 @@ quiet_if false true q threads going open_now h = not_so (list_any (lives_in q) t
 quiet_if false false q threads going open_now h = cc
 quiet_if true b q threads going open_now h = cc
 
-neither : (a b : Bool) → (a || b) ≡ false → (a ≡ false) × (b ≡ false)
-neither true b h = cc
-neither false b h = (refl, h)
-
 second_not : (a b : Bool) → a ≡ true → (a && b) ≡ false → b ≡ false
 second_not true b e h = h
 second_not false b e h = cc
 
-none_live : (n programs : ℕ) → (threads : List Thread) → All (IsThreadIn n programs) threads → ((q : ℕ) → 1 ≤ q → q ≤ n → list_any (lives_in q) threads ≡ false) → list_any lives threads ≡ false
-none_live n programs [] all quiet = refl
-none_live n programs (x ∷ xs) all quiet =
-    let here = All-head (IsThreadIn n programs) x xs all in
-    let there = neither (lives_in x.proc_no x) (list_any (lives_in x.proc_no) xs) (quiet x.proc_no here.proc_no.from here.proc_no.to) in
+none_live : (n : ℕ) → (threads : List Thread) → tally (is_outside n) threads ≡ 0 → ((q : ℕ) → 1 ≤ q → q ≤ n → list_any (lives_in q) threads ≡ false) → list_any lives threads ≡ false
+none_live n [] none quiet = refl
+none_live n (x ∷ xs) none quiet =
+    let here = proc_at n (x ∷ xs) 1 x none refl in
+    let there = or_parts (lives_in x.proc_no x) (list_any (lives_in x.proc_no) xs) (quiet x.proc_no here.0 here.1) in
     let gone : lives x ≡ false = second_not (eqb x.proc_no x.proc_no) (not (is_ended x.place)) (same_id x.proc_no) there.0 in
-    let rest = none_live n programs xs (All-tail (IsThreadIn n programs) x xs all) (λ q low high. (neither (lives_in q x) (list_any (lives_in q) xs) (quiet q low high)).1) in
+    let rest = none_live n xs (none_first (is_outside n x) (tally (is_outside n) xs) none).1 (λ q low high. (or_parts (lives_in q x) (list_any (lives_in q) xs) (quiet q low high)).1) in
     rw (gone, rest) refl
 
-ended_by : (setup : Setup) (H : List Entry) (b : Bool) → (state_after setup H).over ≡ b → IsValid setup → IsLegal setup H → ((p : ℕ) → 1 ≤ p → p ≤ setup.opened → reply_at setup H (Proc p) Next ≡ Over) → HasEnded setup H
-ended_by setup H true e valid legal over = inl (rw (last_entry H) (((history_ending setup H legal).stuck e).1))
+ended_by : (setup : Setup) (H : List Entry) (b : Bool) → (state_after setup H).over ≡ b → IsValid setup → IsLegal setup H → ((p : ℕ) → 1 ≤ p → p ≤ setup.places → reply_at setup H (Proc p) Next ≡ Over) → HasEnded setup H
+ended_by setup H true e valid legal over = elim ((history_ending setup H legal).cause e) [
+  | inl parts ↦ inl (rw (last_entry H) (parts.1))
+  | inr none ↦ inr (none_tally lives (state_after setup H).threads none)
+]
 ended_by setup H false e valid legal over =
     let s = state_after setup H in
-    let opened = (history_ending setup H legal).opened in
-    inr (none_live s.opened setup.programs s.threads (state_sound setup H valid).members
+    let members = (kept_after setup H legal).members valid in
+    let placed = members.opened in
+    inr (none_live s.opened s.threads members.procs
     (λ q low high. quiet_if s.over (leb q s.opened) q s.threads e (le-leb q s.opened high)
-    (over_cause setup q s (over q low (omega (arith, opened, high)))).1))
+    (over_cause setup q s (over q low (omega (arith, placed, high)))).1))
 
 pub ends_over : (setup : Setup) (H : List Entry) → EndsOver setup H
 ends_over setup H valid legal over = ended_by setup H (state_after setup H).over refl valid legal over

@@ -28,7 +28,7 @@ use Rattle.p9_manual.specs.IoReplies.{ioproc_after, IsPosted, IsBegun, IsTakeRep
 use Rattle.p9_manual.proofs.Tallies.{tally, tally-at}
 use Rattle.p9_manual.proofs.Standing.{get_by_id, by_id-changed_same, place_runs}
 use Rattle.p9_manual.proofs.RunMoves.{IsUpright, is_long}
-use Rattle.p9_manual.proofs.RunCalls.{served_served}
+use Rattle.p9_manual.proofs.RunAsked.{served_called}
 use Rattle.p9_manual.proofs.RunTurns.{next_turned, take_begun, did_begun}
 use Rattle.p9_manual.proofs.RunHistory.{kept_after, state_with}
 
@@ -128,7 +128,7 @@ pub taken_noted : (setup : Setup) (H : List Entry) → TakenNoted setup H
 taken_noted setup H k call effect took fit = fitting_noted setup (grown setup H (Io k) IoTake) k call effect (taken_begun setup H k call took) fit
 
 called_begun : (setup : Setup) (b : Bool) (p t : ℕ) (r : Request) (s : State) → runs_there p (by_id s.threads t) ≡ b → IsUpright s → (k : ℕ) (call : IoCall) → IsBegun call (by_id s.ioprocs k) → IsBegun call (by_id (cond b (served setup t r s) (same Stray s)).state.ioprocs k)
-called_begun setup true p t r s e upright k call h = (served_served setup t r s upright (place_runs p (by_id s.threads t) e)).begun k call h
+called_begun setup true p t r s e upright k call h = (served_called setup t r s upright (place_runs p (by_id s.threads t) e)).begun k call h
 called_begun setup false p t r s e upright k call h = h
 
 step_begun : (setup : Setup) (seat : Seat) (event : Event) (s : State) → IsUpright s → makes_entry (step setup seat event s).reply ≡ true → (k : ℕ) (call : IoCall) → tells_effect k seat event ≡ false → IsBegun call (by_id s.ioprocs k) → IsBegun call (by_id (step setup seat event s).state.ioprocs k)

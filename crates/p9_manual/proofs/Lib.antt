@@ -2,7 +2,12 @@ pub mod Tallies
 pub mod Standing
 pub mod RunMoves
 pub mod RunCalls
+pub mod RunCreate
+pub mod RunEnds
+pub mod RunAsked
 pub mod RunTurns
+pub mod RunSteps
+pub mod RunMembers
 pub mod RunHistory
 pub mod RunLaws
 pub mod IoLaws

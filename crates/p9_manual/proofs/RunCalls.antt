@@ -1,4 +1,4 @@
--- What each request of a thread that runs does.
+-- What each request on channels and ioprocs of a thread that runs does.
 use Rattle.std.proofs.Common.{◌≡◌, ℕ, ◌+◌, ◌-◌, Bool, true, false, not, cond, ◌&&◌, ◌||◌, eqb, ltb, List, [], ◌∷◌, ◌++◌, map, Option, Some, None, refl, ap, subst, ◌∙◌, inl, inr, arith, append_assoc, append-nil}
 use Rattle.std.specs.List.{filter}
 use Rattle.std.proofs.lemmas.Bool.{cases_eq}
@@ -6,8 +6,6 @@ use Rattle.p9_word.specs.declared.answer.Answer.{Answer}
 use Rattle.p9_word.specs.declared.answer.Answer.TheVariants.{Sent, Closed}
 use Rattle.p9_word.specs.declared.request.Request.{Request}
 use Rattle.p9_word.specs.declared.request.Request.TheVariants.{Thread as ThreadRequest, Chan as ChanRequest, Io as IoRequest}
-use Rattle.p9_word.specs.declared.request.ThreadReq.{ThreadReq}
-use Rattle.p9_word.specs.declared.request.ThreadReq.TheVariants.{ThreadExits}
 use Rattle.p9_word.specs.declared.request.ChanReq.{ChanReq}
 use Rattle.p9_word.specs.declared.request.ChanReq.TheVariants.{ChanClose, Send, Recv}
 use Rattle.p9_word.specs.declared.request.IoReq.{IoReq}
@@ -23,17 +21,15 @@ use Rattle.p9_manual.specs.declared.state.Ioproc.{Ioproc}
 use Rattle.p9_manual.specs.declared.state.Ioproc.TheVariants.{Unmade, Idle, Posted, Begun, Closed as ClosedIoproc}
 use Rattle.p9_manual.specs.Effects.{message_length}
 use Rattle.p9_manual.specs.State.{State, Outcome, by_id, pick, at_place, changed, woken, waiting, now, bad, done}
-use Rattle.p9_manual.specs.Threads.{thread_call, ended, let_go, kept_caller}
 use Rattle.p9_manual.specs.Chans.{chan_call, send, send_to, recv, recv_from, close, close_channel, all_closed, waits_on, sends_on, receives_on, is_too_long}
 use Rattle.p9_manual.specs.Ioprocs.{io_call, make, post_call, close_ioproc}
-use Rattle.p9_manual.specs.Step.{served}
 use Rattle.p9_manual.specs.RunReplies.{IsCallReply}
 use Rattle.p9_manual.specs.IoReplies.{IsBegun}
 use Rattle.p9_manual.proofs.Tallies.{tally, tally-split, tally-put, tally-put_exact, tally-push, tally-filtered_none, none_first, pick_passes}
-use Rattle.p9_manual.proofs.Standing.{place_of, place_in, made_up, by_id-changed_other, by_id-map, place_of-placed_same, get_by_id}
-use Rattle.p9_manual.proofs.RunMoves.{AreUpright, IsUpright, IsMoved, is_call_of, is_long, unmoved, moved_on, placed_moved, RunsIn, runs_up, readied_upright, waiting_upright, ended_upright, woken_upright, picked_up, not_picked, asks_io, is_io_wait_of, wait_of, no_io_wait}
+use Rattle.p9_manual.proofs.Standing.{place_of, place_in, made_up, by_id-changed_other, get_by_id}
+use Rattle.p9_manual.proofs.RunMoves.{AreUpright, IsUpright, IsMoved, is_call_of, is_long, unmoved, moved_on, placed_moved, RunsIn, runs_up, readied_upright, waiting_upright, woken_upright, picked_up, not_picked, asks_io, is_io_wait_of, wait_of, no_io_wait}
 
--- what a request of a thread t that runs is to keep
+-- what a request of a thread t that runs is to keep, where it makes no thread
 pub record IsServed (t : ℕ) (s : State) (o : Outcome) : Type 0 where
   pub moved : IsMoved s.threads o.state.threads
   pub upright : IsUpright o.state
@@ -44,7 +40,7 @@ pub record IsServed (t : ℕ) (s : State) (o : Outcome) : Type 0 where
   pub over : o.state.over ≡ s.over
   pub opened : o.state.opened ≡ s.opened
 
-done_served : (s : State) (t : ℕ) (a : Answer) → IsUpright s → RunsIn s t → IsServed t s (done t a s)
+pub done_served : (s : State) (t : ℕ) (a : Answer) → IsUpright s → RunsIn s t → IsServed t s (done t a s)
 done_served s t a upright runs =
     record {
       moved = placed_moved s.threads t (Ready a) (runs_up s t runs) (λ e. cc);
@@ -77,7 +73,7 @@ just_waiting s t r upright runs chan =
     upright.short (λ k call h. h)
 
 -- an answer at once that moves no thread
-now_served : (s : State) (t : ℕ) (a : Answer) (ios : List Ioproc) → AreUpright s.threads s.line s.waits ios → ((k : ℕ) (call : IoCall) → IsBegun call (by_id s.ioprocs k) → IsBegun call (by_id ios k)) → IsServed t s (now a (record s { ioprocs = ios }))
+pub now_served : (s : State) (t : ℕ) (a : Answer) (ios : List Ioproc) → AreUpright s.threads s.line s.waits ios → ((k : ℕ) (call : IoCall) → IsBegun call (by_id s.ioprocs k) → IsBegun call (by_id ios k)) → IsServed t s (now a (record s { ioprocs = ios }))
 now_served s t a ios upright begun =
     record {
       moved = unmoved s.threads;
@@ -90,32 +86,12 @@ now_served s t a ios upright begun =
       opened = refl;
     }
 
-bad_served : (s : State) (t : ℕ) → IsUpright s → IsServed t s (bad s)
+pub bad_served : (s : State) (t : ℕ) → IsUpright s → IsServed t s (bad s)
 bad_served s t upright = now_served s t _ s.ioprocs upright (λ k call h. h)
 
 if_served : (t : ℕ) (s : State) (b : Bool) (o p : Outcome) → (b ≡ true → IsServed t s o) → (b ≡ false → IsServed t s p) → IsServed t s (cond b o p)
 if_served t s true o p f g = f refl
 if_served t s false o p f g = g refl
-
-ended_begun : (t : ℕ) (ios : List Ioproc) (k : ℕ) (call : IoCall) → IsBegun call (by_id ios k) → IsBegun call (by_id (map (let_go t) ios) k)
-ended_begun t ios k call h = rw (by_id-map (let_go t) ios k (Begun h.0 call) (h.1)) (kept_caller t h.0, refl)
-
-exits_served : (s : State) (t : ℕ) → IsUpright s → RunsIn s t → IsServed t s (record { reply = EndedReply; state = ended t s })
-exits_served s t upright runs =
-    record {
-      moved = placed_moved s.threads t Ended (runs_up s t runs) (λ e. cc);
-      upright = ended_upright s t upright runs;
-      reply = tt;
-      ends = λ e. place_of-placed_same s.threads t Ended (made_up s.threads t (runs_up s t runs));
-      stays = λ a e. cc;
-      begun = ended_begun t s.ioprocs;
-      over = refl;
-      opened = refl;
-    }
-
-thread_call_served : (setup : Setup) (t : ℕ) (r : ThreadReq) (s : State) → IsUpright s → RunsIn s t → IsServed t s (thread_call setup t r s)
-unfolding thread_call
-thread_call_served setup t (ThreadExits text) s upright runs = exits_served s t upright runs
 
 -- one who runs stays where it is when another one is woken
 woken_place : (s : State) (p : Waiter → Bool) (w : Waiter) (others : List Waiter) (a : Answer) (t : ℕ) → IsUpright s → pick p s.waits ≡ Some (w, others) → RunsIn s t → by_id (woken w.tid a others s).threads t ≡ by_id s.threads t
@@ -234,7 +210,7 @@ close_served t c s None upright runs = bad_served s t upright
 close_served t c s (Some chan) upright runs =
     if_served t s chan.closed _ _ (λ _. now_served s t _ s.ioprocs upright (λ k call h. h)) (λ _. close_channel_served t c s upright runs)
 
-chan_call_served : (setup : Setup) (t : ℕ) (r : ChanReq) (s : State) → IsUpright s → RunsIn s t → IsServed t s (chan_call setup t r s)
+pub chan_call_served : (setup : Setup) (t : ℕ) (r : ChanReq) (s : State) → IsUpright s → RunsIn s t → IsServed t s (chan_call setup t r s)
 unfolding chan_call
 chan_call_served setup t (ChanClose c) s upright runs = close_served t c s _ upright runs
 chan_call_served setup t (Send c value) s upright runs = send_served t c value s _ upright runs
@@ -297,14 +273,8 @@ close_ioproc_served t k s (Some (Begun u call)) at upright = bad_served s t upri
 close_ioproc_served t k s (Some ClosedIoproc) at upright = bad_served s t upright
 close_ioproc_served t k s None at upright = bad_served s t upright
 
-io_call_served : (setup : Setup) (t : ℕ) (r : IoReq) (s : State) → IsUpright s → RunsIn s t → IsServed t s (io_call setup t r s)
+pub io_call_served : (setup : Setup) (t : ℕ) (r : IoReq) (s : State) → IsUpright s → RunsIn s t → IsServed t s (io_call setup t r s)
 unfolding io_call
 io_call_served setup t (IoProc k) s upright runs = make_served t k s _ refl upright
 io_call_served setup t (IoRun k call) s upright runs = post_call_served t k call s _ refl upright runs
 io_call_served setup t (CloseIoProc k) s upright runs = close_ioproc_served t k s _ refl upright
-
-pub served_served : (setup : Setup) (t : ℕ) (r : Request) (s : State) → IsUpright s → RunsIn s t → IsServed t s (served setup t r s)
-unfolding served
-served_served setup t (ThreadRequest r) s upright runs = thread_call_served setup t r s upright runs
-served_served setup t (ChanRequest r) s upright runs = chan_call_served setup t r s upright runs
-served_served setup t (IoRequest r) s upright runs = io_call_served setup t r s upright runs

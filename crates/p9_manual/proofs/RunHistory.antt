@@ -1,9 +1,10 @@
 -- What holds after each legal history, by induction: its state is upright, and its threads stand where their lives say.
-use Rattle.std.proofs.Common.{◌≡◌, ◌≢◌, ℕ, zero, suc, ◌+◌, ◌<◌, ◌≤◌, Bool, true, false, not, cond, eqb, List, [], ◌∷◌, ◌++◌, map, replicate, Option, Some, None, refl, sym, subst, ◌∙◌, inl, inr, arith, rules, tests, zero-add}
+use Rattle.std.proofs.Common.{◌≡◌, ◌≢◌, ◌⊎◌, ℕ, zero, suc, ◌+◌, ◌<◌, Bool, true, false, not, cond, ◌||◌, eqb, List, [], ◌∷◌, ◌++◌, map, replicate, Option, Some, None, refl, sym, subst, inl, inr, arith, rules, tests, zero-add}
 use Rattle.std.specs.Prelude.{option_map, slice_get}
 use Rattle.std.specs.List.{list_any, fold}
 use Rattle.std.proofs.lemmas.List.Sums.{fold-append}
-use Rattle.std.proofs.lemmas.Bool.{cases_eq}
+use Rattle.std.proofs.lemmas.Bool.{cases_eq, eqb-true}
+use Rattle.p9_word.specs.Setup.{IsValid}
 use Rattle.p9_word.specs.declared.answer.Answer.{Answer}
 use Rattle.p9_word.specs.declared.request.Request.{Request}
 use Rattle.p9_word.specs.declared.setup.Setup.{Setup}
@@ -20,158 +21,104 @@ use Rattle.p9_manual.specs.declared.state.Place.TheVariants.{Running, New, Ready
 use Rattle.p9_manual.specs.declared.state.Thread.{Thread}
 use Rattle.p9_manual.specs.declared.state.Ioproc.{Ioproc}
 use Rattle.p9_manual.specs.declared.state.Ioproc.TheVariants.{Unmade}
-use Rattle.p9_manual.specs.State.{State, Outcome, by_id, pick, placed, same}
+use Rattle.p9_manual.specs.State.{State, Outcome, by_id, pick, placed, at_place, same}
 use Rattle.p9_manual.specs.Places.{is_of, runs_in, runs_there}
 use Rattle.p9_manual.specs.Stuck.{is_stuck}
 use Rattle.p9_manual.specs.Next.{next_event, next_of, turn, turn_reply, started, is_place, is_over}
 use Rattle.p9_manual.specs.Step.{step, outcome, called, served, makes_entry}
 use Rattle.p9_manual.specs.History.{IsLegal, IsLegalFrom, after_entry, begin_state, state_after, new_thread, with_entry, ids_from}
-use Rattle.p9_manual.specs.Programs.{Life, Unborn, Lives, Dead, life, life_after, given_answer, after_call, after_event, Asks, IsAsked, RunsFrom, RunsPrograms}
+use Rattle.p9_manual.specs.Programs.{Life, Unborn, Lives, Dead, life, life_after, given_answer, ends_all, after_call, after_event, Asks, IsAsked, RunsFrom, RunsPrograms}
 use Rattle.p9_manual.specs.RunReplies.{IsLiving}
 use Rattle.p9_manual.proofs.Tallies.{tally}
-use Rattle.p9_manual.proofs.Standing.{IsUp, IsMade, place_of, place_in, times_waiting, place_runs, by_id-suc, place_of-placed_same, place_of-placed_other, times_in_line}
-use Rattle.p9_manual.proofs.RunMoves.{IsUpright, IsFading, is_call_of, is_long, same_id, other_id}
-use Rattle.p9_manual.proofs.RunCalls.{IsServed, served_served}
-use Rattle.p9_manual.proofs.RunTurns.{IsIoServed, io_served, IsTurned, next_turned, Turned}
+use Rattle.p9_manual.proofs.Standing.{IsUp, place_of, place_in, times_waiting, place_runs, by_id-suc, by_id-changed_same, by_id-changed_other, times_in_line}
+use Rattle.p9_manual.proofs.RunMoves.{IsUpright, is_unborn, is_call_of, is_long, same_id, other_id}
+use Rattle.p9_manual.proofs.RunAsked.{IsCalled, served_called, served_all}
+use Rattle.p9_manual.proofs.RunTurns.{IsIoServed, io_served, Turned}
+use Rattle.p9_manual.proofs.RunSteps.{step_stepped}
+use Rattle.p9_manual.proofs.RunMembers.{AreMembers, members_on, begin_members}
 
--- a new thread is unborn, and one that is up lives
-abbrev pub AgreesAt : Place → Life → Type 0
-AgreesAt New life = life ≡ Unborn
-AgreesAt Running life = IsLiving life
-AgreesAt (Ready a) life = IsLiving life
-AgreesAt Waiting life = IsLiving life
-AgreesAt Ended life = Unit {0}
+-- a thread that hasn't begun is unborn, and one that is up lives
+pub record AgreesIn (o : Option Thread) (l : Life) : Type 0 where
+  pub unborn : is_unborn o ≡ true → l ≡ Unborn
+  pub living : IsUp (place_in o) → IsLiving l
 
 abbrev pub Agrees : (ℕ → Life) → List Thread → Type 0
-Agrees lives threads = (u : ℕ) → AgreesAt (place_of threads u) (lives u)
-
-pub up_living : (pl : Place) (l : Life) → IsUp pl → AgreesAt pl l → IsLiving l
-up_living Running l up h = h
-up_living (Ready a) l up h = h
-up_living Waiting l up h = h
-up_living New l up h = absurd up
-up_living Ended l up h = absurd up
-
-living_up : (pl : Place) (l : Life) → IsUp pl → IsLiving l → AgreesAt pl l
-living_up Running l up h = h
-living_up (Ready a) l up h = h
-living_up Waiting l up h = h
-living_up New l up h = absurd up
-living_up Ended l up h = absurd up
+Agrees lives threads = (u : ℕ) → AgreesIn (by_id threads u) (lives u)
 
 answered_lives : (l : Life) (a : Answer) → IsLiving l → IsLiving (given_answer a l)
 answered_lives Unborn a h = h
 answered_lives Dead a h = h
 answered_lives (Lives program arg answers) a h = tt
 
-if_lives : (b : Bool) (l m : Life) → IsLiving l → IsLiving m → IsLiving (cond b l m)
-if_lives true l m f g = f
-if_lives false l m f g = g
+if_lives : (b : Bool) (l m : Life) → (b ≡ true → IsLiving l) → (b ≡ false → IsLiving m) → IsLiving (cond b l m)
+if_lives true l m f g = f refl
+if_lives false l m f g = g refl
 
 if_unborn : (b : Bool) (l m : Life) → l ≡ Unborn → m ≡ Unborn → cond b l m ≡ Unborn
 if_unborn true l m f g = f
 if_unborn false l m f g = g
 
 -- after a reply to a call
-call_lives : (t u : ℕ) (r : Reply) (l : Life) → IsLiving l → (r ≡ EndedReply → u ≡ t → ⊥) → IsLiving (after_call u t r l)
-call_lives t u (Now a) l h unended = if_lives (eqb u t) _ l (answered_lives l a h) h
-call_lives t u EndedReply l h unended = elim (cases_eq u t) [
-  | inl e ↦ absurd (unended refl e)
-  | inr ne ↦ rw (other_id u t (λ e. ne (sym e))) h
+call_lives : (t u : ℕ) (request : Request) (r : Reply) (l : Life) → IsLiving l → (r ≡ EndedReply → (eqb u t || ends_all request) ≡ true → ⊥) → IsLiving (after_call u t request r l)
+call_lives t u request (Now a) l h unended = if_lives (eqb u t) _ l (λ e. answered_lives l a h) (λ e. h)
+call_lives t u request EndedReply l h unended = if_lives (eqb u t || ends_all request) _ l (λ e. absurd (unended refl e)) (λ e. h)
+call_lives t u request r l h unended = h
+
+call_unborn : (t u : ℕ) (request : Request) (r : Reply) (l : Life) → l ≡ Unborn → after_call u t request r l ≡ Unborn
+call_unborn t u request (Now a) l h = if_unborn (eqb u t) _ l (rw h refl) h
+call_unborn t u request EndedReply l h = if_unborn (eqb u t || ends_all request) _ l (rw h refl) h
+call_unborn t u request r l h = h
+
+either : (b c : Bool) → (b || c) ≡ true → (b ≡ true) ⊎ (c ≡ true)
+either true c h = inl refl
+either false c h = inr h
+
+-- who has ended isn't up: the caller, or all where the request ends all
+not_up : (setup : Setup) (t u : ℕ) (request : Request) (s : State) (o : Outcome) → IsCalled setup t s o → (ends_all request ≡ true → IsUp (place_of o.state.threads u) → ⊥) → IsUp (place_of o.state.threads u) → o.reply ≡ EndedReply → (eqb u t || ends_all request) ≡ true → ⊥
+not_up setup t u request s o is all up r h = elim (either (eqb u t) (ends_all request) h) [
+  | inl same ↦
+      let ended = subst (λ (x : ℕ). place_of o.state.threads x ≡ Ended) (sym (eqb-true u t same)) (is.ends r) in
+      subst (λ (pl : Place). IsUp pl) ended up
+  | inr every ↦ all every up
 ]
-call_lives t u r l h unended = h
 
-call_unborn : (t u : ℕ) (r : Reply) (l : Life) → l ≡ Unborn → (r ≡ EndedReply → u ≡ t → ⊥) → after_call u t r l ≡ Unborn
-call_unborn t u (Now a) l h unended = if_unborn (eqb u t) _ l (rw h refl) h
-call_unborn t u EndedReply l h unended = elim (cases_eq u t) [
-  | inl e ↦ absurd (unended refl e)
-  | inr ne ↦ rw (other_id u t (λ e. ne (sym e))) h
-]
-call_unborn t u r l h unended = h
-
-call_agrees_at : (pl old : Place) (t u : ℕ) (r : Reply) (l : Life) → (IsUp pl → IsUp old) → (pl ≡ New → old ≡ New) → (r ≡ EndedReply → u ≡ t → pl ≡ Ended) → AgreesAt old l → AgreesAt pl (after_call u t r l)
-call_agrees_at Running old t u r l up new ends h = call_lives t u r l (up_living old l (up tt) h) (λ e same. let z = ends e same in cc)
-call_agrees_at (Ready a) old t u r l up new ends h = call_lives t u r l (up_living old l (up tt) h) (λ e same. let z = ends e same in cc)
-call_agrees_at Waiting old t u r l up new ends h = call_lives t u r l (up_living old l (up tt) h) (λ e same. let z = ends e same in cc)
-call_agrees_at New old t u r l up new ends h = call_unborn t u r l (subst (λ (x : Place). AgreesAt x l) (new refl) h) (λ e same. let z = ends e same in cc)
-call_agrees_at Ended old t u r l up new ends h = tt
-
-call_agrees : (t : ℕ) (s : State) (o : Outcome) (lives : ℕ → Life) → IsServed t s o → Agrees lives s.threads → Agrees (λ u. after_call u t o.reply (lives u)) o.state.threads
-call_agrees t s o lives is before u =
-    call_agrees_at (place_of o.state.threads u) (place_of s.threads u) t u o.reply (lives u) (is.moved.up u) (is.moved.new u)
-    (λ r e. subst (λ (x : ℕ). place_of o.state.threads x ≡ Ended) (sym e) (is.ends r)) (before u)
-
-moved_agrees_at : (pl old : Place) (l : Life) → (IsUp pl → IsUp old) → (pl ≡ New → old ≡ New) → AgreesAt old l → AgreesAt pl l
-moved_agrees_at Running old l up new h = up_living old l (up tt) h
-moved_agrees_at (Ready a) old l up new h = up_living old l (up tt) h
-moved_agrees_at Waiting old l up new h = up_living old l (up tt) h
-moved_agrees_at New old l up new h = subst (λ (x : Place). AgreesAt x l) (new refl) h
-moved_agrees_at Ended old l up new h = tt
-
--- what one more entry keeps
-pub record IsStepped (s : State) (o : Outcome) : Type 0 where
-  pub fades : (q : Thread → Bool) → IsFading q → tally q o.state.threads ≤ tally q s.threads
-  pub upright : IsUpright o.state
-  pub over : s.over ≡ true → o.state.over ≡ true
-  pub opened : o.state.opened ≡ s.opened
-
-served_stepped : (t : ℕ) (s : State) (o : Outcome) → IsServed t s o → IsStepped s o
-served_stepped t s o is = record { fades = is.moved.fades; upright = is.upright; over = λ h. is.over ∙ h; opened = is.opened }
-
-io_stepped : (s : State) (o : Outcome) → IsIoServed s o → IsStepped s o
-io_stepped s o is = record { fades = is.moved.fades; upright = is.upright; over = λ h. is.over ∙ h; opened = is.opened }
-
-turned_stepped : (s : State) (o : Outcome) → IsTurned s o → IsStepped s o
-turned_stepped s o is = record { fades = is.fades; upright = is.upright; over = is.over; opened = is.opened }
-
-called_stepped : (setup : Setup) (b : Bool) (p t : ℕ) (r : Request) (s : State) → runs_there p (by_id s.threads t) ≡ b → IsUpright s → makes_entry (cond b (served setup t r s) (same Stray s)).reply ≡ true → IsStepped s (cond b (served setup t r s) (same Stray s))
-called_stepped setup true p t r s e upright makes = served_stepped t s _ (served_served setup t r s upright (place_runs p (by_id s.threads t) e))
-called_stepped setup false p t r s e upright makes = cc
-
-outcome_stepped : (setup : Setup) (seat : Seat) (event : Event) (s : State) → IsUpright s → makes_entry (outcome setup seat event s).reply ≡ true → IsStepped s (outcome setup seat event s)
-unfolding outcome called
-outcome_stepped setup (Proc p) (Call t r) s upright makes = called_stepped setup _ p t r s refl upright makes
-outcome_stepped setup (Proc p) Next s upright makes = turned_stepped s _ (next_turned setup p s upright makes)
-outcome_stepped setup (Proc p) IoTake s upright makes = cc
-outcome_stepped setup (Proc p) (IoDid effect) s upright makes = cc
-outcome_stepped setup (IoSeat k) IoTake s upright makes = io_stepped s _ (io_served k s None upright)
-outcome_stepped setup (IoSeat k) (IoDid effect) s upright makes = io_stepped s _ (io_served k s (Some effect) upright)
-outcome_stepped setup (IoSeat k) (Call t r) s upright makes = cc
-outcome_stepped setup (IoSeat k) Next s upright makes = cc
-
-pub step_stepped : (setup : Setup) (seat : Seat) (event : Event) (s : State) → IsUpright s → makes_entry (step setup seat event s).reply ≡ true → IsStepped s (step setup seat event s)
-unfolding step
-step_stepped setup seat event s upright makes =
-    let r = outcome_stepped setup seat event s upright makes in
-    record { fades = r.fades; upright = r.upright; over = r.over; opened = r.opened }
+call_agrees : (setup : Setup) (t : ℕ) (request : Request) (s : State) (o : Outcome) (lives : ℕ → Life) → IsCalled setup t s o → (ends_all request ≡ true → (u : ℕ) → IsUp (place_of o.state.threads u) → ⊥) → Agrees lives s.threads → Agrees (λ u. after_call u t request o.reply (lives u)) o.state.threads
+call_agrees setup t request s o lives is all before u =
+    record {
+      unborn = λ h. call_unborn t u request o.reply (lives u) ((before u).unborn (is.unborn u h));
+      living = λ h. call_lives t u request o.reply (lives u) ((before u).living (is.up u h)) (not_up setup t u request s o is (λ e. all e u) h);
+    }
 
 abbrev pub EventAgrees : Event → (ℕ → Life) → Outcome → Type 0
 EventAgrees event lives o = Agrees (λ u. after_event u event o.reply (lives u)) o.state.threads
 
 called_agrees : (setup : Setup) (b : Bool) (p t : ℕ) (r : Request) (s : State) (lives : ℕ → Life) → runs_there p (by_id s.threads t) ≡ b → IsUpright s → Agrees lives s.threads → EventAgrees (Call t r) lives (cond b (served setup t r s) (same Stray s))
-called_agrees setup true p t r s lives e upright before = call_agrees t s _ lives (served_served setup t r s upright (place_runs p (by_id s.threads t) e)) before
+called_agrees setup true p t r s lives e upright before =
+    let runs = place_runs p (by_id s.threads t) e in
+    call_agrees setup t r s _ lives (served_called setup t r s upright runs) (served_all setup t r s runs) before
 called_agrees setup false p t r s lives e upright before = before
 
 io_agrees : (s : State) (o : Outcome) (lives : ℕ → Life) → IsIoServed s o → Agrees lives s.threads → Agrees lives o.state.threads
-io_agrees s o lives is before u = moved_agrees_at (place_of o.state.threads u) (place_of s.threads u) (lives u) (is.moved.up u) (is.moved.new u) (before u)
+io_agrees s o lives is before u =
+    record { unborn = λ h. (before u).unborn (is.moved.unborn u h); living = λ h. (before u).living (is.moved.up u h) }
 
 -- the others are where they were
-other_agrees : (t u : ℕ) (s : State) (lives : ℕ → Life) → IsMade t s.threads → u ≢ t → Agrees lives s.threads → AgreesAt (place_of (placed t Running s.threads) u) (lives u)
-other_agrees t u s lives made ne before = rw (place_of-placed_other s.threads t u Running made ne) (before u)
+other_agrees : (t u : ℕ) (s : State) (x : Thread) (lives : ℕ → Life) → by_id s.threads t ≡ Some x → u ≢ t → Agrees lives s.threads → AgreesIn (by_id (placed t Running s.threads) u) (lives u)
+other_agrees t u s x lives at ne before = rw (by_id-changed_other (at_place Running) s.threads t u x at ne) (before u)
 
-placed_up : (threads : List Thread) (t : ℕ) (l : Life) → IsMade t threads → IsLiving l → AgreesAt (place_of (placed t Running threads) t) l
-placed_up threads t l made h = rw (place_of-placed_same threads t Running made) h
+placed_up : (threads : List Thread) (t : ℕ) (x : Thread) (l : Life) → by_id threads t ≡ Some x → IsLiving l → AgreesIn (by_id (placed t Running threads) t) l
+placed_up threads t x l at h = rw (by_id-changed_same (at_place Running) threads t x at) (record { unborn = λ e. cc; living = λ up. h })
 
 turn_agrees_at : (t : ℕ) (s : State) (thread : Thread) (pl : Place) (lives : ℕ → Life) → by_id s.threads t ≡ Some thread → thread.place ≡ pl → makes_entry (turn_reply t (thread.program, thread.arg, pl)) ≡ true → Agrees lives s.threads → EventAgrees Next lives (Turned t s thread pl)
 turn_agrees_at t s thread New lives at is makes before u = elim (cases_eq u t) [
-  | inl e ↦ rw (e, same_id) (placed_up s.threads t _ (thread, at) tt)
-  | inr ne ↦ rw (other_id u t (λ h. ne (sym h))) (other_agrees t u s lives (thread, at) ne before)
+  | inl e ↦ rw (e, same_id) (placed_up s.threads t thread _ at tt)
+  | inr ne ↦ rw (other_id u t (λ h. ne (sym h))) (other_agrees t u s thread lives at ne before)
 ]
 turn_agrees_at t s thread (Ready a) lives at is makes before u = elim (cases_eq u t) [
-  | inl e ↦ let pl : place_of s.threads t ≡ Ready a = rw at is in
-      let here = subst (λ (x : Place). AgreesAt x (lives t)) pl (before t) in
-      rw (e, same_id) (placed_up s.threads t _ (thread, at) (answered_lives (lives t) a here))
-  | inr ne ↦ rw (other_id u t (λ h. ne (sym h))) (other_agrees t u s lives (thread, at) ne before)
+  | inl e ↦
+      let up : IsUp (place_of s.threads t) = rw (at, is) tt in
+      rw (e, same_id) (placed_up s.threads t thread _ at (answered_lives (lives t) a ((before t).living up)))
+  | inr ne ↦ rw (other_id u t (λ h. ne (sym h))) (other_agrees t u s thread lives at ne before)
 ]
 turn_agrees_at t s thread Running lives at is makes before u = absurd (cc makes)
 turn_agrees_at t s thread Waiting lives at is makes before u = absurd (cc makes)
@@ -212,39 +159,37 @@ step_agrees : (setup : Setup) (seat : Seat) (event : Event) (s : State) (lives :
 unfolding step
 step_agrees setup seat event s lives upright before makes = outcome_agrees setup seat event s lives upright before makes
 
--- what holds after a history from this state on
-pub record IsKept (first s : State) (lives : ℕ → Life) : Type 0 where
+-- what holds after each legal history
+pub record IsKept (setup : Setup) (s : State) (lives : ℕ → Life) : Type 0 where
   pub upright : IsUpright s
   pub agrees : Agrees lives s.threads
-  pub fades : (q : Thread → Bool) → IsFading q → tally q s.threads ≤ tally q first.threads
-  pub opened : s.opened ≡ first.opened
+  pub members : IsValid setup → AreMembers setup s
 
 entry_agrees : (setup : Setup) (e : Entry) (r : Reply) (s : State) (lives : ℕ → Life) → e.reply ≡ r → Agrees (λ u. after_event u e.event r (lives u)) (after_entry setup s e).threads → Agrees (λ u. life_after u (lives u) e) (after_entry setup s e).threads
 entry_agrees setup e r s lives is agrees = rw is agrees
 
-entry_kept : (setup : Setup) (first s : State) (e : Entry) (lives : ℕ → Life) → e.reply ≡ (step setup e.seat e.event s).reply → makes_entry e.reply ≡ true → IsKept first s lives → IsKept first (after_entry setup s e) (λ u. life_after u (lives u) e)
-entry_kept setup first s e lives is makes kept =
+entry_kept : (setup : Setup) (s : State) (e : Entry) (lives : ℕ → Life) → e.reply ≡ (step setup e.seat e.event s).reply → makes_entry e.reply ≡ true → IsKept setup s lives → IsKept setup (after_entry setup s e) (λ u. life_after u (lives u) e)
+entry_kept setup s e lives is makes kept =
     let now = rw is at makes in
     let stepped = step_stepped setup e.seat e.event s kept.upright now in
     record {
       upright = stepped.upright;
       agrees = entry_agrees setup e _ s lives is (step_agrees setup e.seat e.event s lives kept.upright kept.agrees now);
-      fades = λ q h. let k = stepped.fades q h in let l = kept.fades q h in omega (arith, k, l);
-      opened = stepped.opened ∙ kept.opened;
+      members = λ valid. members_on setup s _ stepped (kept.members valid);
     }
 
-fold_kept : (setup : Setup) (first : State) (H : List Entry) (s : State) (lives : ℕ → Life) → IsLegalFrom setup s H → IsKept first s lives → IsKept first (fold (after_entry setup) s H) (λ u. fold (life_after u) (lives u) H)
-fold_kept setup first [] s lives legal kept = kept
-fold_kept setup first (e ∷ H) s lives legal kept =
-    fold_kept setup first H (after_entry setup s e) (λ u. life_after u (lives u) e) legal.2 (entry_kept setup first s e lives legal.0 legal.1 kept)
+fold_kept : (setup : Setup) (H : List Entry) (s : State) (lives : ℕ → Life) → IsLegalFrom setup s H → IsKept setup s lives → IsKept setup (fold (after_entry setup) s H) (λ u. fold (life_after u) (lives u) H)
+fold_kept setup [] s lives legal kept = kept
+fold_kept setup (e ∷ H) s lives legal kept =
+    fold_kept setup H (after_entry setup s e) (λ u. life_after u (lives u) e) legal.2 (entry_kept setup s e lives legal.0 legal.1 kept)
 
-new_place : (xs : List ThreadSetup) (i : ℕ) → (AgreesAt (place_in (slice_get (map new_thread xs) i)) Unborn) × (0 ≡ times_waiting (place_in (slice_get (map new_thread xs) i)))
-new_place [] i = (tt, refl)
-new_place (x ∷ xs) zero = (refl, refl)
+new_place : (xs : List ThreadSetup) (i : ℕ) → (AgreesIn (slice_get (map new_thread xs) i) Unborn) × (0 ≡ times_waiting (place_in (slice_get (map new_thread xs) i)))
+new_place [] i = (record { unborn = λ h. refl; living = λ h. absurd h }, refl)
+new_place (x ∷ xs) zero = (record { unborn = λ h. refl; living = λ h. absurd h }, refl)
 new_place (x ∷ xs) (suc i) = new_place xs i
 
-begin_place : (xs : List ThreadSetup) (t : ℕ) → (AgreesAt (place_of (map new_thread xs) t) Unborn) × (0 ≡ times_waiting (place_of (map new_thread xs) t))
-begin_place xs zero = (tt, refl)
+begin_place : (xs : List ThreadSetup) (t : ℕ) → (AgreesIn (by_id (map new_thread xs) t) Unborn) × (0 ≡ times_waiting (place_of (map new_thread xs) t))
+begin_place xs zero = (record { unborn = λ h. refl; living = λ h. absurd h }, refl)
 begin_place xs (suc i) = rw by_id-suc (new_place xs i)
 
 unmade_none : (q : Ioproc → Bool) → q Unmade ≡ false → (n : ℕ) → tally q (replicate n Unmade) ≡ 0
@@ -275,7 +220,7 @@ begin_line : (xs : List ThreadSetup) (t : ℕ) → tally (λ x. eqb x t) (ids_fr
 begin_line xs zero = ids_below 1 zero xs (omega arith)
 begin_line xs (suc i) = rw by_id-suc (ids_at 1 i (suc i) xs (omega arith))
 
-begin_kept : (setup : Setup) → IsKept (begin_state setup) (begin_state setup) (λ u. Unborn)
+begin_kept : (setup : Setup) → IsKept setup (begin_state setup) (λ u. Unborn)
 begin_kept setup =
     record {
       upright = record {
@@ -285,14 +230,12 @@ begin_kept setup =
         short = unmade_none is_long refl setup.files;
       };
       agrees = λ u. (begin_place setup.threads u).0;
-      fades = λ q h. omega arith;
-      opened = refl;
+      members = begin_members setup;
     }
 
--- what holds after each legal history
-pub kept_after : (setup : Setup) (H : List Entry) → IsLegal setup H → IsKept (begin_state setup) (state_after setup H) (λ u. life u H)
+pub kept_after : (setup : Setup) (H : List Entry) → IsLegal setup H → IsKept setup (state_after setup H) (λ u. life u H)
 unfolding state_after life
-kept_after setup H legal = fold_kept setup (begin_state setup) H (begin_state setup) (λ u. Unborn) legal (begin_kept setup)
+kept_after setup H legal = fold_kept setup H (begin_state setup) (λ u. Unborn) legal (begin_kept setup)
 
 -- the state after one more entry
 pub state_grown : (setup : Setup) (H : List Entry) (e : Entry) → state_after setup (H ++ e ∷ []) ≡ (step setup e.seat e.event (state_after setup H)).state

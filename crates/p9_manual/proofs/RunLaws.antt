@@ -1,20 +1,18 @@
 -- The laws that a runner of threads rests on.
-use Rattle.std.proofs.Common.{◌≡◌, ℕ, ◌-◌, ◌≤◌, Bool, true, false, not, cond, ◌&&◌, ◌||◌, eqb, leb, List, [], ◌∷◌, map, Option, Some, None, refl, subst, arith}
-use Rattle.std.specs.Prelude.{option_map, All}
+use Rattle.std.proofs.Common.{◌≡◌, ℕ, ◌-◌, ◌≤◌, Bool, true, false, not, cond, ◌&&◌, ◌||◌, eqb, leb, List, Option, Some, None, refl, subst, inl, inr, arith}
+use Rattle.std.specs.Prelude.{option_map}
 use Rattle.std.specs.List.{list_any}
-use Rattle.std.proofs.lemmas.Bool.{and_parts, leb-true, le-leb}
-use Rattle.std.proofs.lemmas.List.Elements.{All-head, All-tail}
+use Rattle.std.proofs.lemmas.Bool.{and_parts, leb-true, le-leb, eqb-true}
+use Rattle.p9_word.specs.declared.answer.Answer.{Answer}
 use Rattle.p9_word.specs.declared.request.Request.{Request}
 use Rattle.p9_word.specs.declared.setup.Setup.{Setup}
-use Rattle.p9_word.specs.declared.setup.ThreadSetup.{ThreadSetup}
 use Rattle.p9_word.specs.declared.trail.Entry.{Entry}
 use Rattle.p9_word.specs.declared.trail.Event.{Event}
 use Rattle.p9_word.specs.declared.trail.Event.TheVariants.{Call, Next}
 use Rattle.p9_word.specs.declared.trail.Reply.{Reply}
-use Rattle.p9_word.specs.declared.trail.Reply.TheVariants.{Begin, Turn, Over, Stray}
+use Rattle.p9_word.specs.declared.trail.Reply.TheVariants.{Now, Begin, Turn, Over, Stray}
 use Rattle.p9_word.specs.declared.trail.Seat.{Seat}
 use Rattle.p9_word.specs.declared.trail.Seat.TheVariants.{Proc}
-use Rattle.p9_word.specs.Setup.{IsThreadOf}
 use Rattle.p9_manual.specs.declared.state.Place.{Place}
 use Rattle.p9_manual.specs.declared.state.Place.TheVariants.{Running, New, Ready, Waiting, Ended}
 use Rattle.p9_manual.specs.declared.state.Thread.{Thread}
@@ -23,45 +21,34 @@ use Rattle.p9_manual.specs.Places.{is_of, runs_in, runs_there, lives, lives_in, 
 use Rattle.p9_manual.specs.Stuck.{is_stuck}
 use Rattle.p9_manual.specs.Next.{next_event, next_of, turn, turn_reply, started, is_place, is_over}
 use Rattle.p9_manual.specs.Step.{step, outcome, called, makes_entry}
-use Rattle.p9_manual.specs.History.{IsLegal, state_after, new_thread}
+use Rattle.p9_manual.specs.History.{IsLegal, state_after}
 use Rattle.p9_manual.specs.Programs.{Life, life}
-use Rattle.p9_manual.specs.RunReplies.{reply_at, grown, IsNextReply, IsGiven, RunsAfter, RunningLive, TurnReplies, TurnsRun, CallReplies, AnsweredRunOn, OverStays, GrownLegal, LivesGo, ProgramsGo}
-use Rattle.p9_manual.proofs.Tallies.{tally, tally-at, tally_none, none_tally, pick_passes}
-use Rattle.p9_manual.proofs.Standing.{IsUp, place_of, place_in, place_runs, get_by_id, by_id-changed_same}
+use Rattle.p9_manual.specs.RunReplies.{reply_at, grown, IsCallReply, IsNextReply, IsGiven, RunsAfter, RunningLive, TurnReplies, TurnsRun, CallReplies, AnsweredRunOn, OverStays, GrownLegal, LivesGo, ProgramsGo}
+use Rattle.p9_manual.proofs.Tallies.{tally, tally-at, tally-le, tally_none, none_tally, pick_passes}
+use Rattle.p9_manual.proofs.Standing.{IsUp, place_of, place_runs, get_by_id, by_id-changed_same}
 use Rattle.p9_manual.proofs.RunMoves.{IsUpright, IsFading}
-use Rattle.p9_manual.proofs.RunCalls.{IsServed, served_served}
-use Rattle.p9_manual.proofs.RunHistory.{Agrees, AgreesAt, up_living, IsStepped, step_stepped, kept_after, life_grown, programs_grown, state_with, legal_grown}
+use Rattle.p9_manual.proofs.RunAsked.{IsNewIn, IsShut, served_called}
+use Rattle.p9_manual.proofs.RunSteps.{IsStepped, step_stepped}
+use Rattle.p9_manual.proofs.RunMembers.{program_at, is_foreign}
+use Rattle.p9_manual.proofs.RunHistory.{Agrees, AgreesIn, kept_after, life_grown, programs_grown, state_with, legal_grown}
 
 pub running_live : (setup : Setup) (H : List Entry) → RunningLive setup H
 running_live setup H p t legal runs =
     let kept = kept_after setup H legal in
     let up : IsUp (place_of (state_after setup H).threads t) = rw (place_runs p (by_id (state_after setup H).threads t) runs) tt in
-    up_living (place_of (state_after setup H).threads t) (life t H) up (kept.agrees t)
+    (kept.agrees t).living up
 
--- a thread whose program isn't one of so many
-abbrev pub is_foreign : ℕ → Thread → Bool
-is_foreign programs x = not (leb 1 x.program && leb x.program programs)
-
-own_program : (programs : ℕ) (b : Bool) (x : Thread) → (leb 1 x.program && leb x.program programs) ≡ b → (not b ≡ true → 1 ≤ 0) → (1 ≤ x.program) × (x.program ≤ programs)
-own_program programs true x e h = let parts = and_parts (leb 1 x.program) (leb x.program programs) e in (leb-true 1 x.program parts.0, leb-true x.program programs parts.1)
-own_program programs false x e h = absurd (let z = h refl in omega (arith, z))
-
-program_at : (programs : ℕ) (threads : List Thread) (t : ℕ) (x : Thread) → tally (is_foreign programs) threads ≡ 0 → by_id threads t ≡ Some x → (1 ≤ x.program) × (x.program ≤ programs)
-program_at programs threads t x none at =
-    own_program programs (leb 1 x.program && leb x.program programs) x refl
-    (λ foreign. let k = tally-at (is_foreign programs) threads (t - 1) x (get_by_id threads t x at) foreign in omega (arith, k, none))
-
-turn_lively : (lives : ℕ → Life) (programs t : ℕ) (x : Thread) (pl : Place) → AgreesAt pl (lives t) → (1 ≤ x.program) × (x.program ≤ programs) → IsNextReply lives programs (turn_reply t (x.program, x.arg, pl))
-turn_lively lives programs t x New h own = (h, own.0, own.1)
-turn_lively lives programs t x (Ready a) h own = h
-turn_lively lives programs t x Running h own = tt
-turn_lively lives programs t x Waiting h own = tt
-turn_lively lives programs t x Ended h own = tt
+turn_lively : (lives : ℕ → Life) (programs t : ℕ) (x : Thread) (pl : Place) → x.place ≡ pl → AgreesIn (Some x) (lives t) → (1 ≤ x.program) × (x.program ≤ programs) → IsNextReply lives programs (turn_reply t (x.program, x.arg, pl))
+turn_lively lives programs t x New is h own = (h.unborn (rw is refl), own.0, own.1)
+turn_lively lives programs t x (Ready a) is h own = h.living (rw is tt)
+turn_lively lives programs t x Running is h own = tt
+turn_lively lives programs t x Waiting is h own = tt
+turn_lively lives programs t x Ended is h own = tt
 
 turned_lively : (lives : ℕ → Life) (programs t : ℕ) (s more : State) (o : Option Thread) → by_id s.threads t ≡ o → Agrees lives s.threads → tally (is_foreign programs) s.threads ≡ 0 → IsNextReply lives programs (turn t more (option_map started o)).reply
 turned_lively lives programs t s more None at before none = tt
 turned_lively lives programs t s more (Some x) at before none =
-    turn_lively lives programs t x x.place (subst (λ (o : Option Thread). AgreesAt (place_in o) (lives t)) at (before t)) (program_at programs s.threads t x none at)
+    turn_lively lives programs t x x.place refl (subst (λ (o : Option Thread). AgreesIn o (lives t)) at (before t)) (program_at programs s.threads t x none at)
 
 if_lively : (lives : ℕ → Life) (programs : ℕ) (b : Bool) (o p : Outcome) → IsNextReply lives programs o.reply → IsNextReply lives programs p.reply → IsNextReply lives programs (cond b o p).reply
 if_lively lives programs true o p f g = f
@@ -79,21 +66,10 @@ step_lively setup p s lives before none =
     (if_lively lives setup.programs (list_any (runs_in p) s.threads) _ _ tt
     (next_of_lively lives setup.programs s (pick (λ t. is_of p (by_id s.threads t)) s.line) before none)))
 
-none_foreign : (opened programs : ℕ) → (xs : List ThreadSetup) → All (IsThreadOf opened programs) xs → tally (is_foreign programs) (map new_thread xs) ≡ 0
-none_foreign opened programs [] all = refl
-none_foreign opened programs (x ∷ xs) all =
-    let here = All-head (IsThreadOf opened programs) x xs all in
-    let low : leb 1 x.program ≡ true = le-leb 1 x.program here.program.from in
-    let high : leb x.program programs ≡ true = le-leb x.program programs here.program.to in
-    let rest = none_foreign opened programs xs (All-tail (IsThreadOf opened programs) x xs all) in
-    rw (low, high, rest) refl
-
 pub turn_replies : (setup : Setup) (H : List Entry) → TurnReplies setup H
 turn_replies setup H p valid legal =
     let kept = kept_after setup H legal in
-    let first = none_foreign setup.opened setup.programs setup.threads valid.threads in
-    let k = kept.fades (is_foreign setup.programs) (λ x pl a h. h) in
-    step_lively setup p (state_after setup H) (λ t. life t H) kept.agrees (omega (arith, first, k))
+    step_lively setup p (state_after setup H) (λ t. life t H) kept.agrees (kept.members valid).programs
 
 -- the thread that has the turn runs in p
 abbrev pub RunsNow : ℕ → Outcome → Type 0
@@ -140,20 +116,25 @@ turns_run setup H p =
     (λ makes t h. rw (state_with setup H (Proc p) Next (reply_at setup H (Proc p) Next) makes) h)
     (step_runs setup p (state_after setup H))
 
-step_served : (setup : Setup) (p t : ℕ) (r : Request) (s : State) → IsUpright s → runs_there p (by_id s.threads t) ≡ true → IsServed t s (step setup (Proc p) (Call t r) s)
+-- what a call of a thread that runs comes to
+record IsAnswered (t : ℕ) (s : State) (o : Outcome) : Type 0 where
+  reply : IsCallReply o.reply
+  stays : (a : Answer) → o.reply ≡ Now a → (p : ℕ) → runs_there p (by_id s.threads t) ≡ true → runs_there p (by_id o.state.threads t) ≡ true
+
+step_answered : (setup : Setup) (p t : ℕ) (r : Request) (s : State) → IsUpright s → runs_there p (by_id s.threads t) ≡ true → IsAnswered t s (step setup (Proc p) (Call t r) s)
 unfolding step outcome called
-step_served setup p t r s upright runs =
-    let is = served_served setup t r s upright (place_runs p (by_id s.threads t) runs) in
-    rw runs (record { moved = is.moved; upright = is.upright; reply = is.reply; ends = is.ends; stays = is.stays; begun = is.begun; over = is.over; opened = is.opened })
+step_answered setup p t r s upright runs =
+    let is = served_called setup t r s upright (place_runs p (by_id s.threads t) runs) in
+    rw runs (record { reply = is.reply; stays = is.stays })
 
 pub call_replies : (setup : Setup) (H : List Entry) → CallReplies setup H
-call_replies setup H p t r legal runs = (step_served setup p t r (state_after setup H) (kept_after setup H legal).upright runs).reply
+call_replies setup H p t r legal runs = (step_answered setup p t r (state_after setup H) (kept_after setup H legal).upright runs).reply
 
 pub answered_run_on : (setup : Setup) (H : List Entry) → AnsweredRunOn setup H
 answered_run_on setup H p t r a legal runs now =
-    let is = step_served setup p t r (state_after setup H) (kept_after setup H legal).upright runs in
+    let is = step_answered setup p t r (state_after setup H) (kept_after setup H legal).upright runs in
     let makes : makes_entry (reply_at setup H (Proc p) (Call t r)) ≡ true = rw now refl in
-    rw (state_with setup H (Proc p) (Call t r) (reply_at setup H (Proc p) (Call t r)) makes, is.stays a now) runs
+    rw (state_with setup H (Proc p) (Call t r) (reply_at setup H (Proc p) (Call t r)) makes) (is.stays a now p runs)
 
 -- why a proc's turns are over
 over_if : (b : Bool) (o : Outcome) (s : State) → (o.reply ≡ Over → ⊥) → (cond b (same Over s) o).reply ≡ Over → b ≡ true
@@ -199,12 +180,63 @@ lives_fades x pl alive h = rw alive refl
 lives_in_fades : (q : ℕ) → IsFading (lives_in q)
 lives_in_fades q x pl alive h = let parts = and_parts (eqb x.proc_no q) (not (is_ended pl)) h in rw (parts.0, alive) refl
 
-which_fades : (b : Bool) (q : ℕ) → IsFading (cond b (lives_in q) lives)
-which_fades true q = lives_in_fades q
-which_fades false q = lives_fades
+fresh_step : (b : Bool) → (b ≡ true → ⊥) → (b && true) ≡ false
+fresh_step true h = absurd (h refl)
+fresh_step false h = refl
 
-none_left : (p : Thread → Bool) (before after : List Thread) → tally p after ≤ tally p before → list_any p before ≡ false → list_any p after ≡ false
-none_left p before after k none = let z = tally_none p before none in none_tally p after (omega (arith, k, z))
+-- who makes a thread lives, and so does somebody
+maker_lives : (setup : Setup) (s : State) (n p program : ℕ) → IsNewIn setup s n p program → 1 ≤ tally lives s.threads
+maker_lives setup s n p program is =
+    tally-at lives s.threads (is.t - 1) is.caller (get_by_id s.threads is.t is.caller is.there) (let e = is.runs in rw e refl)
+
+-- where nobody lives, nobody comes to live
+pub lives_shut : (setup : Setup) (s : State) (n : ℕ) → tally lives s.threads ≡ 0 → IsShut setup s n lives
+lives_shut setup s n none =
+    record {
+      fading = lives_fades;
+      kept = λ x y proc program place h. rw place at h;
+      fresh = λ p program arg group is. absurd (let k = maker_lives setup s n p program is in omega (arith, k, none));
+    }
+
+-- and where nobody lives in an open proc, nobody comes to live there
+lives_in_shut : (setup : Setup) (q : ℕ) (s : State) (n : ℕ) → q ≤ s.opened → tally (lives_in q) s.threads ≡ 0 → IsShut setup s n (lives_in q)
+lives_in_shut setup q s n open_now none =
+    record {
+      fading = lives_in_fades q;
+      kept = λ x y proc program place h. rw (proc, place) at h;
+      fresh = λ p program arg group is. fresh_step (eqb p q) (elsewhere p program is);
+    }
+  where
+    elsewhere : (p program : ℕ) → IsNewIn setup s n p program → eqb p q ≡ true → ⊥
+    elsewhere p program is e = elim (is.proc_no) [
+      | inl same ↦
+          let here : eqb is.caller.proc_no q ≡ true = rw (← same) e in
+          let runs = is.runs in
+          let k = tally-at (lives_in q) s.threads (is.t - 1) is.caller (get_by_id s.threads is.t is.caller is.there) (rw (here, runs) refl) in
+          omega (arith, k, none)
+      | inr next ↦ let h = eqb-true p q e in omega (arith, h, next, open_now)
+    ]
+
+lives_in_lives : (q : ℕ) (x : Thread) → lives_in q x ≡ true → lives x ≡ true
+lives_in_lives q x h = (and_parts (eqb x.proc_no q) (not (is_ended x.place)) h).1
+
+-- nobody comes to live in a proc that nobody lives in, or in any while that isn't open
+over_for : (setup : Setup) (q : ℕ) (s : State) (o : Outcome) (b c : Bool) → leb q s.opened ≡ b → leb q o.state.opened ≡ c → IsStepped setup s o → list_any (cond b (lives_in q) lives) s.threads ≡ false → list_any (cond c (lives_in q) lives) o.state.threads ≡ false
+over_for setup q s o true true was now is none =
+    let z = tally_none (lives_in q) s.threads none in
+    let k = is.tallies (lives_in q) (lives_in_shut setup q s o.state.opened (leb-true q s.opened was) z) in
+    none_tally (lives_in q) o.state.threads (omega (arith, k, z))
+over_for setup q s o true false was now is none =
+    absurd (let low = leb-true q s.opened was in let more = is.grows in let e = le-leb q o.state.opened (omega (arith, low, more)) in cc (e, now))
+over_for setup q s o false true was now is none =
+    let z = tally_none lives s.threads none in
+    let k = is.tallies lives (lives_shut setup s o.state.opened z) in
+    let fewer = tally-le (lives_in q) lives (lives_in_lives q) o.state.threads in
+    none_tally (lives_in q) o.state.threads (omega (arith, k, z, fewer))
+over_for setup q s o false false was now is none =
+    let z = tally_none lives s.threads none in
+    let k = is.tallies lives (lives_shut setup s o.state.opened z) in
+    none_tally lives o.state.threads (omega (arith, k, z))
 
 still_over : (a b c d : Bool) → (a ≡ true → c ≡ true) → (b ≡ false → d ≡ false) → (a || not b) ≡ true → (c || not d) ≡ true
 still_over true b c d f g h = rw (f refl) refl
@@ -212,17 +244,16 @@ still_over false true c d f g h = cc
 still_over false false true d f g h = refl
 still_over false false false d f g h = rw (g refl) refl
 
-over_on : (q : ℕ) (s : State) (o : Outcome) → IsStepped s o → is_over q s ≡ true → is_over q o.state ≡ true
-over_on q s o is h =
-    rw is.opened
-    (still_over s.over (list_any (cond (leb q s.opened) (lives_in q) lives) s.threads) o.state.over (list_any (cond (leb q s.opened) (lives_in q) lives) o.state.threads)
-    is.over (none_left (cond (leb q s.opened) (lives_in q) lives) s.threads o.state.threads (is.fades _ (which_fades (leb q s.opened) q))) h)
+over_on : (setup : Setup) (q : ℕ) (s : State) (o : Outcome) → IsStepped setup s o → is_over q s ≡ true → is_over q o.state ≡ true
+over_on setup q s o is h =
+    still_over s.over (list_any (cond (leb q s.opened) (lives_in q) lives) s.threads) o.state.over (list_any (cond (leb q o.state.opened) (lives_in q) lives) o.state.threads)
+    is.over (over_for setup q s o (leb q s.opened) (leb q o.state.opened) refl refl is) h
 
 over_with : (setup : Setup) (H : List Entry) (q : ℕ) (seat : Seat) (event : Event) (b : Bool) → makes_entry (reply_at setup H seat event) ≡ b → IsUpright (state_after setup H) → reply_at setup H (Proc q) Next ≡ Over → reply_at setup (grown setup H seat event) (Proc q) Next ≡ Over
 over_with setup H q seat event true makes upright over =
     let cause = over_cause setup q (state_after setup H) over in
     rw (reply_at, state_with setup H seat event (reply_at setup H seat event) makes)
-    (over_reply setup q _ cause.0 (over_on q (state_after setup H) _ (step_stepped setup seat event (state_after setup H) upright makes) cause.1))
+    (over_reply setup q _ cause.0 (over_on setup q (state_after setup H) _ (step_stepped setup seat event (state_after setup H) upright makes) cause.1))
 over_with setup H q seat event false makes upright over = rw makes over
 
 pub over_stays : (setup : Setup) (H : List Entry) → OverStays setup H

@@ -15,9 +15,9 @@ use Rattle.p9_manual.specs.declared.state.Ioproc.TheVariants.{Unmade, Idle, Post
 use Rattle.p9_manual.specs.Effects.{message_length}
 use Rattle.p9_manual.specs.State.{State, by_id, pick, placed, at_place, woken, waiting, readied}
 use Rattle.p9_manual.specs.Places.{is_ended}
-use Rattle.p9_manual.specs.Threads.{ended, let_go}
+use Rattle.p9_manual.specs.Ends.{ended, let_go}
 use Rattle.p9_manual.proofs.Tallies.{tally, tally_pick, tally-push, tally-changed, tally-map, tally-map_same, tally-le, filter_none}
-use Rattle.p9_manual.proofs.Standing.{IsUp, IsMade, place_of, place_in, times_waiting, times_in_line, made_up, get_by_id, place_of-placed_same, place_of-placed_other}
+use Rattle.p9_manual.proofs.Standing.{IsUp, IsMade, place_of, place_in, times_waiting, times_in_line, made_up, get_by_id, by_id-changed_same, by_id-changed_other, place_of-placed_same, place_of-placed_other}
 
 -- an ioproc keeps a call of thread u
 abbrev pub is_call_of : ℕ → Ioproc → Bool
@@ -61,10 +61,22 @@ IsUpright s = AreUpright s.threads s.line s.waits s.ioprocs
 abbrev pub IsFading : (Thread → Bool) → Type 0
 IsFading q = (x : Thread) (pl : Place) → is_ended x.place ≡ false → q (at_place pl x) ≡ true → q x ≡ true
 
--- no thread is up, new or alive that was not
+abbrev pub is_new : Place → Bool
+is_new New = true
+is_new Running = false
+is_new (Ready a) = false
+is_new Waiting = false
+is_new Ended = false
+
+-- a thread that hasn't begun: it isn't made yet, or is new
+abbrev pub is_unborn : Option Thread → Bool
+is_unborn None = true
+is_unborn (Some x) = is_new x.place
+
+-- no thread is up, unborn or alive that was not
 pub record IsMoved (before after : List Thread) : Type 0 where
   pub up : (u : ℕ) → IsUp (place_of after u) → IsUp (place_of before u)
-  pub new : (u : ℕ) → place_of after u ≡ New → place_of before u ≡ New
+  pub unborn : (u : ℕ) → is_unborn (by_id after u) ≡ true → is_unborn (by_id before u) ≡ true
   pub fades : (q : Thread → Bool) → IsFading q → tally q after ≤ tally q before
 
 pub same_id : (t : ℕ) → eqb t t ≡ true
@@ -74,13 +86,13 @@ pub other_id : (t u : ℕ) → u ≢ t → eqb t u ≡ false
 other_id t u ne = search (rules, tests)
 
 pub unmoved : (threads : List Thread) → IsMoved threads threads
-unmoved threads = record { up = λ u h. h; new = λ u h. h; fades = λ q h. omega arith }
+unmoved threads = record { up = λ u h. h; unborn = λ u h. h; fades = λ q h. omega arith }
 
 pub moved_on : (a b c : List Thread) → IsMoved a b → IsMoved b c → IsMoved a c
 moved_on a b c f g =
     record {
       up = λ u h. f.up u (g.up u h);
-      new = λ u h. f.new u (g.new u h);
+      unborn = λ u h. f.unborn u (g.unborn u h);
       fades = λ q h. let k = f.fades q h in let l = g.fades q h in omega (arith, k, l);
     }
 
@@ -94,6 +106,13 @@ alive Ended up = absurd up
 alive_at : (threads : List Thread) (t : ℕ) (thread : Thread) → by_id threads t ≡ Some thread → IsUp (place_of threads t) → is_ended thread.place ≡ false
 alive_at threads t thread at up = alive thread.place (subst (λ (o : Option Thread). IsUp (place_in o)) at up)
 
+place_new : (pl : Place) → is_new pl ≡ true → pl ≡ New
+place_new New h = refl
+place_new Running h = cc
+place_new (Ready a) h = cc
+place_new Waiting h = cc
+place_new Ended h = cc
+
 -- a thread that is up is put somewhere, but not anew
 pub placed_moved : (threads : List Thread) (t : ℕ) (pl : Place) → IsUp (place_of threads t) → pl ≢ New → IsMoved threads (placed t pl threads)
 placed_moved threads t pl up old =
@@ -103,9 +122,11 @@ placed_moved threads t pl up old =
         | inl e ↦ subst (λ (x : ℕ). IsUp (place_of threads x)) (sym e) up
         | inr ne ↦ rw (place_of-placed_other threads t u pl made ne) at now
       ];
-      new = λ u now. elim (cases_eq u t) [
-        | inl e ↦ absurd (old (sym (place_of-placed_same threads t pl made) ∙ subst (λ (x : ℕ). place_of (placed t pl threads) x ≡ New) e now))
-        | inr ne ↦ rw (place_of-placed_other threads t u pl made ne) at now
+      unborn = λ u now. elim (cases_eq u t) [
+        | inl e ↦
+            let here = subst (λ (x : ℕ). is_unborn (by_id (placed t pl threads) x) ≡ true) e now in
+            absurd (old (place_new pl (rw (by_id-changed_same (at_place pl) threads t made.0 made.1) at here)))
+        | inr ne ↦ rw (by_id-changed_other (at_place pl) threads t u made.0 made.1 ne) at now
       ];
       fades = λ q h. tally-changed q (at_place pl) threads (t - 1) made.0 (get_by_id threads t made.0 made.1) (h made.0 pl (alive_at threads t made.0 made.1 up));
     }

@@ -5,6 +5,9 @@ pub mod Stand
 pub mod Waits
 pub mod Calls
 pub mod Outcomes
+pub mod Create
+pub mod Ends
+pub mod Fields
 pub mod Threads
 pub mod Chans
 pub mod Ioprocs

@@ -24,7 +24,7 @@ use Rattle.p9_manual.specs.declared.state.Ioproc.TheVariants.{Unmade, Idle, Post
 use Rattle.p9_manual.specs.State.{State, Outcome, by_id, pick, behind, same}
 use Rattle.p9_manual.specs.Places.{is_of, runs, runs_in, runs_there, lives, lives_in, stands_ready, has_call, is_running, is_ready}
 use Rattle.p9_manual.specs.Stuck.{is_stuck}
-use Rattle.p9_manual.specs.Threads.{thread_call}
+use Rattle.p9_manual.specs.Threads.{thread_call, asked}
 use Rattle.p9_manual.specs.Ioprocs.{take_call, did_call, io_event, fits}
 use Rattle.p9_manual.specs.Next.{next_event, next_of, turn, turn_reply, started, stuck, is_place, is_over}
 use Rattle.p9_manual.specs.Step.{step, outcome, called, served, makes_entry}
@@ -221,16 +221,16 @@ can_move : (setup : Setup) (s : State) (seat : Seat) (event : Event) (r : Reply)
 can_move setup s seat event r e makes moves =
     record { seat = seat; event = event; makes = rw e makes; moves = rw e moves }
 
-ends_reply : (setup : Setup) (p t : ℕ) (s : State) → runs_there p (by_id s.threads t) ≡ true → (step setup (Proc p) (Call t (ThreadRequest (ThreadExits []))) s).reply ≡ EndedReply
-unfolding step outcome called served thread_call
-ends_reply setup p t s runs = rw runs refl
+ends_reply : (setup : Setup) (p t : ℕ) (s : State) (x : Thread) → by_id s.threads t ≡ Some x → runs_there p (Some x) ≡ true → (step setup (Proc p) (Call t (ThreadRequest (ThreadExits []))) s).reply ≡ EndedReply
+unfolding step outcome called served thread_call asked
+ends_reply setup p t s x at runs = rw (at, runs) refl
 
 one_ends : (setup : Setup) (s : State) → list_any runs s.threads ≡ true → CanMove setup s
 one_ends setup s some =
     let f = found runs s.threads some in
     let same : eqb f.1.proc_no f.1.proc_no ≡ true = search (rules, tests) in
-    let there : runs_there f.1.proc_no (by_id s.threads f.0) ≡ true = rw (f.2, same) (f.3) in
-    can_move setup s (Proc f.1.proc_no) (Call f.0 (ThreadRequest (ThreadExits []))) EndedReply (ends_reply setup f.1.proc_no f.0 s there) refl (λ e. cc)
+    let there : runs_there f.1.proc_no (Some f.1) ≡ true = rw same (f.3) in
+    can_move setup s (Proc f.1.proc_no) (Call f.0 (ThreadRequest (ThreadExits []))) EndedReply (ends_reply setup f.1.proc_no f.0 s f.1 f.2 there) refl (λ e. cc)
 
 -- a reply that makes an entry and isn't Stuck
 abbrev pub Moves : Reply → Type 0

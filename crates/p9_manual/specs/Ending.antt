@@ -28,8 +28,8 @@ ends_stuck history = stuck_at (slice_get history (length history - 1))
 abbrev pub HasEnded : Setup → List Entry → Type 0
 HasEnded setup history = (ends_stuck history ≡ true) ⊎ (list_any lives (state_after setup history).threads ≡ false)
 
--- a run is at its end where the turns of each open proc are over
+-- a run is at its end where the turns of each proc place are over
 abbrev pub EndsOver : Setup → List Entry → Type 0
 EndsOver setup entries =
-    IsValid setup → IsLegal setup entries → ((p : ℕ) → 1 ≤ p → p ≤ setup.opened → reply_at setup entries (Proc p) Next ≡ Over)
+    IsValid setup → IsLegal setup entries → ((p : ℕ) → 1 ≤ p → p ≤ setup.places → reply_at setup entries (Proc p) Next ≡ Over)
     → HasEnded setup entries

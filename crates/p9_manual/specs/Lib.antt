@@ -1,4 +1,6 @@
+pub mod Create
 pub mod Effects
+pub mod Ends
 pub mod Files
 pub mod State
 pub mod Places
@@ -14,6 +16,7 @@ pub mod History
 pub mod Programs
 pub mod FilesInHistory
 pub mod Examples
+pub mod ThreadExamples
 pub mod RunReplies
 pub mod IoReplies
 pub mod StuckReplies

@@ -1,10 +1,12 @@
 -- What a history says of each thread, and when it runs the programs: each thread's calls are those that its program
 -- asks for, given its answers so far. This project's own.
-use Rattle.std.specs.Prelude.{ℕ, ◌≡◌, ◌==◌, List, [], ◌∷◌, ◌++◌, if◌then◌else◌}
+use Rattle.std.specs.Prelude.{ℕ, ◌≡◌, ◌==◌, ◌||◌, Bool, true, false, List, [], ◌∷◌, ◌++◌, if◌then◌else◌}
 use Rattle.std.specs.List.{fold}
 use Rattle.p9_word.specs.declared.answer.Answer.{Answer}
 use Rattle.p9_word.specs.declared.answer.Answer.TheVariants.{Done}
 use Rattle.p9_word.specs.declared.request.Request.{Request}
+use Rattle.p9_word.specs.declared.request.Request.TheVariants.{Thread as ThreadRequest}
+use Rattle.p9_word.specs.declared.request.ThreadReq.TheVariants.{ThreadExitsAll}
 use Rattle.p9_word.specs.declared.trail.Event.{Event}
 use Rattle.p9_word.specs.declared.trail.Event.TheVariants.{Call, Next, IoTake, IoDid}
 use Rattle.p9_word.specs.declared.trail.Reply.{Reply}
@@ -22,11 +24,22 @@ given_answer a Unborn = Unborn
 given_answer a (Lives program arg answers) = Lives program arg (answers ++ a ∷ [])
 given_answer a Dead = Dead
 
+-- no thread lives on
+abbrev pub laid_down : Life → Life
+laid_down Unborn = Unborn
+laid_down (Lives program arg answers) = Dead
+laid_down Dead = Dead
+
+-- the request ends all threads
+abbrev pub ends_all : Request → Bool
+ends_all (ThreadRequest (ThreadExitsAll text)) = true
+ends_all request = false
+
 -- what a reply to a call of u does to thread t
-abbrev pub after_call : ℕ → ℕ → Reply → Life → Life
-after_call t u (Now a) life = if t == u then given_answer a life else life
-after_call t u Ended life = if t == u then Dead else life
-after_call t u reply life = life
+abbrev pub after_call : ℕ → ℕ → Request → Reply → Life → Life
+after_call t u request (Now a) life = if t == u then given_answer a life else life
+after_call t u request Ended life = if t == u || ends_all request then laid_down life else life
+after_call t u request reply life = life
 
 -- what a reply to a turn of a proc does to thread t
 abbrev pub after_next : ℕ → Reply → Life → Life
@@ -35,7 +48,7 @@ after_next t (Turn u a) life = if t == u then given_answer a life else life
 after_next t reply life = life
 
 abbrev pub after_event : ℕ → Event → Reply → Life → Life
-after_event t (Call u request) reply life = after_call t u reply life
+after_event t (Call u request) reply life = after_call t u request reply life
 after_event t Next reply life = after_next t reply life
 after_event t IoTake reply life = life
 after_event t (IoDid effect) reply life = life

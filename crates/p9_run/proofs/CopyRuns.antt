@@ -1,5 +1,5 @@
 -- What the run of a copy's text comes to, by how its files were opened and closed.
-use Rattle.std.specs.Prelude.{ℕ, ◌≡◌, ◌≢◌, ◌≤◌, ◌<◌, ◌+◌, ◌-◌, ◌^◌, ◌⊎◌, ◌||◌, ◌++◌, ◌↔◌, min, Bool, true, false, List, [], ◌∷◌, length, take, slice_index_or, zero, suc, Option, Some, None, Result, Ok, Err, MatchBool, MatchResult, OnOk, if◌then◌else◌}
+use Rattle.std.specs.Prelude.{ℕ, ◌≡◌, ◌≢◌, ◌≤◌, ◌<◌, ◌+◌, ◌||◌, ◌++◌, ◌↔◌, Bool, true, false, List, [], slice_index_or, zero, suc, Option, Some, None, Result, Ok, Err, MatchBool, MatchResult, OnOk, if◌then◌else◌}
 use Rattle.std.specs.Io.KnownBytes.{Consumes, Appends}
 use Rattle.std.proofs.Common.{sym, ◌∙◌, ap, subst, refl, inl, inr, arith}
 use Rattle.p9_word.specs.declared.io_call.IoCall.{IoCall}
@@ -9,11 +9,11 @@ use Rattle.p9_word.specs.declared.setup.ChanSetup.{ChanSetup}
 use Rattle.p9_word.specs.declared.setup.Setup.{Setup}
 use Rattle.p9_word.specs.declared.trail.Entry.{Entry}
 use Rattle.p9_word.specs.Setup.{IsValid}
-use Rattle.p9_manual.specs.Files.{given, joined, written}
+use Rattle.p9_manual.specs.Files.{written}
 use Rattle.p9_manual.specs.Ending.{EndsOver, HasEnded, ends_stuck}
 use Rattle.p9_manual.specs.History.{IsLegal}
 use Rattle.p9_manual.specs.RunReplies.{reply_at}
-use Rattle.p9_manual.specs.FilesInHistory.{calls_at, services_at}
+use Rattle.p9_manual.specs.FilesInHistory.{services_at}
 use Rattle.p9_outside.specs.declared.files.FilesFault.{FilesFault}
 use Rattle.p9_outside.specs.declared.files.FilesFault.TheVariants.{Failed, Memory}
 use Rattle.p9_machine.specs.Plain.{IsPlain}
@@ -23,7 +23,7 @@ use Rattle.p9_outside.specs.Reading.{FullReads}
 use Rattle.p9_run.proofs.FileRuns.{full_untold}
 use Rattle.p9_run.proofs.Lifts.{stay_on}
 use Rattle.p9_run.proofs.Runs.{calls_none, history_none}
-use Rattle.p9_run.specs.CopyEnd.{GivenFrom, IsFrontOf, IsGiven, told_at, Holds, RunsNothing, RunsWhole, TellsFaults, CopyEnds, CopyStops, calls_failed, is_open, IsInFault, IsOutFault, IsCopyHistory, failed_at, unopened, run_end, IsFinished, IsClosed, IsStopped}
+use Rattle.p9_run.specs.CopyEnd.{GivenFrom, IsFrontOf, IsGiven, told_at, Holds, RunsNothing, RunsWhole, TellsFaults, CopyEnds, CopyStops, calls_failed, is_open, IsInFault, IsOutFault, IsCopyHistory, failed_at, unopened, run_end, IsFinished, IsStopped}
 use Rattle.p9_run.specs.CopyPrograms.{copy_asks}
 use Rattle.p9_run.specs.CopySetup.{copy_setup}
 use Rattle.p9_run.specs.Moves.{Moves}
@@ -43,7 +43,7 @@ only_chan (suc k) d below = absurd (omega arith)
 -- the setup of a copy is one that machines have so far
 pub copy_is_plain : IsPlain copy_setup
 copy_is_plain =
-    record { places = refl; opened = refl; chans = only_chan; locks = refl; qlocks = refl; rwlocks = refl; rendezes = refl; refs = refl }
+    record { chans = only_chan; locks = refl; qlocks = refl; rwlocks = refl; rendezes = refl; refs = refl }
 
 front_none : (o : Option (List ℕ)) → IsFrontOf [] o
 front_none None = refl

@@ -14,7 +14,7 @@ use Rattle.p9_word.specs.declared.trail.Reply.TheVariants.{Now, Took, Noted}
 use Rattle.p9_word.specs.declared.trail.Seat.TheVariants.{Proc, Io}
 use Rattle.p9_manual.specs.declared.state.Ioproc.{Ioproc}
 use Rattle.p9_manual.specs.History.{with_entry, IsLegal}
-use Rattle.p9_manual.specs.State.{by_id, changed}
+use Rattle.p9_manual.specs.State.{changed}
 use Rattle.p9_manual.specs.IoReplies.{ioproc_after, IsBegun, IsPosted, TakenBegun, TakeReplies, IsTakeReply, FittingNoted}
 use Rattle.p9_manual.specs.History.{state_after}
 use Rattle.p9_manual.specs.RunReplies.{reply_at, RunsAfter, AnsweredRunOn}

@@ -1,20 +1,18 @@
 -- What is said of the contents after FILE was read holds of those before it, since reading it changes none.
-use Rattle.std.specs.Prelude.{ℕ, ◌≡◌, ◌≢◌, ◌≤◌, ◌<◌, ◌+◌, ◌-◌, ◌^◌, ◌⊎◌, ◌||◌, ◌++◌, min, Bool, true, false, List, [], ◌∷◌, length, take, Option, Some, None, MatchBool}
-use Rattle.std.proofs.Common.{sym, ◌∙◌, ap, subst, refl, inl, inr, arith}
+use Rattle.std.specs.Prelude.{ℕ, ◌≡◌, ◌≤◌, ◌+◌, ◌⊎◌, ◌||◌, min, Bool, true, false, List, [], length, take, Option, Some, None, MatchBool}
+use Rattle.std.proofs.Common.{sym, ◌∙◌, ap, subst, inl, inr, arith}
 use Rattle.std.proofs.lemmas.List.{take_all, length-take}
 use Rattle.p9_word.specs.declared.io_call.IoCall.{IoCall}
 use Rattle.p9_word.specs.declared.io_call.Effect.{Effect}
 use Rattle.p9_word.specs.declared.trail.Entry.{Entry}
 use Rattle.p9_manual.specs.FilesInHistory.{services_at}
-use Rattle.p9_outside.specs.Causes.{RoseBy, Rose}
 use Rattle.p9_outside.specs.Contents.{Told, Stay}
 use Rattle.p9_outside.specs.Reading.{FullReads}
 use Rattle.p9_run.proofs.FileRuns.{full_untold}
 use Rattle.p9_run.specs.CommandLine.{command}
-use Rattle.p9_run.specs.CopyEnd.{GivenFrom, IsFrontOf, IsGiven, told_at, Holds, RunsNothing, RunsWhole, TellsFaults, CopyEnds, CopyStops, calls_failed, is_open}
-use Rattle.p9_run.specs.CopyText.{IsCopyText}
-use Rattle.p9_run.specs.FileText.{IsAccepted, HasText, IsReadFrom, IsCopyFile, IsOtherFile}
-use Rattle.p9_run.specs.PipeMain.{FileCanFail, IsUsage, IsNotYet, FileFails, RanCopy, StoppedCopy, CameTo, Answers, IsCall, IsCopyCame}
+use Rattle.p9_run.specs.CopyEnd.{GivenFrom, IsFrontOf, IsGiven, told_at, Holds, RunsNothing, RunsWhole, TellsFaults, CopyEnds, CopyStops, is_open}
+use Rattle.p9_run.specs.FileText.{IsAccepted, IsReadFrom, IsCopyFile, IsOtherFile}
+use Rattle.p9_run.specs.PipeMain.{RanCopy, StoppedCopy, CameTo, Answers, IsCall, IsCopyCame}
 use Rattle.p9_run.specs.declared.report.FileFault.{FileFault}
 use Rattle.p9_run.specs.declared.report.RunEnd.{RunEnd}
 use Rattle.p9_run.specs.declared.report.CommandEnd.{CommandEnd}

@@ -12,7 +12,7 @@ use Rattle.p9_word.specs.declared.trail.Reply.{Reply}
 use Rattle.p9_word.specs.declared.trail.Reply.TheVariants.{Now, Waits, Ended, Begin, Turn}
 use Rattle.p9_word.specs.declared.trail.Seat.{Seat}
 use Rattle.p9_word.specs.declared.trail.Entry.{Entry}
-use Rattle.p9_manual.specs.Programs.{Life, Unborn, Lives, Dead, life, life_after, given_answer, Asks, IsAskedBy, RunsPrograms}
+use Rattle.p9_manual.specs.Programs.{Life, Unborn, Lives, Dead, life, life_after, given_answer, laid_down, ends_all, Asks, IsAskedBy, RunsPrograms}
 use Rattle.p9_run.proofs.Lives.{life-push, runs-push, same_id, other_id}
 use Rattle.p9_run.specs.Slots.{slot}
 use Rattle.p9_manual.specs.RunReplies.{IsLiving}
@@ -69,9 +69,18 @@ module _ {B : Type 0} (asks : Asks) (plan : B → List Answer → Request) (stan
         each = λ u. rw life-push (waits_each H slots slots' t new (stands_now (life t H) last old new request turn.ready asked) turn.others put u (eqb_tells u t));
       }
 
+  down : (l : Life) (o : Option B) → Stands asks plan stands (laid_down l) o
+  down Unborn o = tt
+  down (Lives program arg answers) o = tt
+  down Dead o = tt
+
+  down_if : (b : Bool) (l : Life) (o : Option B) → Stands asks plan stands l o → Stands asks plan stands (if b then laid_down l else l) o
+  down_if true l o here = down l o
+  down_if false l o here = here
+
   ends_each : (H : List Entry) (slots : List (Option B)) (t u : ℕ) (seat : Seat) (request : Request) → ((v : ℕ) → v ≢ t → Stands asks plan stands (life v H) (slot slots v)) → (((u == t) ≡ true) × (u ≡ t)) ⊎ (((u == t) ≡ false) × (u ≢ t)) → Stands asks plan stands (life_after u (life u H) (entry seat (Call t request) Ended)) (slot slots u)
-  ends_each H slots t u seat request others (inl same) = rw same.0 tt
-  ends_each H slots t u seat request others (inr differs) = rw differs.0 (others u differs.1)
+  ends_each H slots t u seat request others (inl same) = rw same.0 (down (life u H) (slot slots u))
+  ends_each H slots t u seat request others (inr differs) = rw differs.0 (down_if (ends_all request) (life u H) (slot slots u) (others u differs.1))
 
   pub call_ended : (H : List Entry) (slots : List (Option B)) (t : ℕ) (last : Answer) (old new : B) (request : Request) (seat : Seat) → InTurn asks plan stands H slots t last old → Asked plan stands old new last request → Between asks plan stands (H ++ entry seat (Call t request) Ended ∷ []) slots
   call_ended H slots t last old new request seat turn asked =

@@ -1,5 +1,5 @@
 -- What the run of a copy's text leaves, tells and was given.
-use Rattle.std.specs.Prelude.{ℕ, ◌≡◌, ◌≢◌, ◌⊎◌, ◌&&◌, ◌||◌, ◌↔◌, ◌+◌, ◌-◌, length, slice_get, Bool, true, false, List, [], ◌++◌, Option, Some, None, Result, Ok, Err, MatchBool, MatchResult, ◌≤◌, ⊤, if◌then◌else◌}
+use Rattle.std.specs.Prelude.{ℕ, ◌≡◌, ◌≢◌, ◌⊎◌, ◌&&◌, ◌||◌, ◌↔◌, ◌+◌, Bool, true, false, List, [], ◌++◌, Option, Some, None, Result, Ok, Err, MatchBool, MatchResult, ◌≤◌, ⊤, if◌then◌else◌}
 use Rattle.std.specs.List.{list_any}
 use Rattle.p9_word.specs.declared.trail.Entry.{Entry}
 use Rattle.p9_word.specs.declared.trail.Event.{Event}

@@ -2,7 +2,6 @@
 use Rattle.std.specs.Prelude.{ℕ, [], ◌∷◌, List, codes}
 use Rattle.p9_word.specs.declared.setup.Setup.{Setup}
 use Rattle.p9_word.specs.declared.setup.ThreadSetup.{ThreadSetup}
-use Rattle.p9_word.specs.declared.setup.ChanSetup.{ChanSetup}
 
 -- a thread in proc 1, with argument 0
 abbrev pub thread : ℕ → List ℕ → ThreadSetup

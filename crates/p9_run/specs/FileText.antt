@@ -1,5 +1,5 @@
 -- The text of FILE, and when it is one that is run.
-use Rattle.std.specs.Prelude.{ℕ, ◌≡◌, ◌≤◌, List, length, take, Option, Some, None, ⊤}
+use Rattle.std.specs.Prelude.{ℕ, ◌≡◌, ◌≤◌, List, length, take, Some, None, ⊤}
 use Rattle.p9_outside.specs.Contents.{Told}
 use Rattle.p9_run.specs.CopyText.{IsCopyText}
 

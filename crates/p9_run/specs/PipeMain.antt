@@ -3,7 +3,7 @@ use Rattle.std.specs.Prelude.{ℕ, ◌≡◌, ◌<◌, ◌⊎◌, List, length, 
 use Rattle.std.specs.Io.KnownBytes.{Appends}
 use Rattle.p9_word.specs.declared.trail.Entry.{Entry}
 use Rattle.p9_outside.specs.Causes.{Rose}
-use Rattle.p9_outside.specs.Contents.{Told, Stay}
+use Rattle.p9_outside.specs.Contents.{Told}
 use Rattle.p9_run.specs.CommandLine.{command}
 use Rattle.p9_run.specs.CopyEnd.{RunsNothing, CopyEnds, CopyStops}
 use Rattle.p9_run.specs.FileText.{IsCopyFile, IsOtherFile}

@@ -1,5 +1,5 @@
 -- What the stage `read` asks from each of its steps on, and when a body of it stands for a list of answers.
-use Rattle.std.specs.Prelude.{ℕ, ◌≡◌, List, [], ◌∷◌, ◌++◌}
+use Rattle.std.specs.Prelude.{◌≡◌, List, [], ◌∷◌, ◌++◌}
 use Rattle.p9_word.specs.declared.answer.Answer.{Answer}
 use Rattle.p9_word.specs.declared.answer.Answer.TheVariants.{Done, Number, Io}
 use Rattle.p9_word.specs.declared.answer.IoAnswer.TheVariants.{Shut, Bytes}

@@ -31,6 +31,10 @@ pub enum Answer {
     Closed,
     /// A number: what it counts is said at each request.
     Number(u64),
+    /// There is no room for what was asked for, or no number to tell; nothing has changed.
+    Minus,
+    /// A text, as the name of a thread.
+    Text(Msg),
     /// What came of a call through an ioproc.
     Io(IoAnswer),
     /// The request names what isn't there, or asks for what can't be; nothing has changed.
@@ -73,6 +77,8 @@ impl Datum for Answer {
             }),
             Answer::Closed => Ok(Answer::Closed),
             Answer::Number(n) => Ok(Answer::Number(*n)),
+            Answer::Minus => Ok(Answer::Minus),
+            Answer::Text(text) => Ok(Answer::Text(text.copied(alloc)?)),
             Answer::Io(answer) => Ok(Answer::Io(answer.copied(alloc)?)),
             Answer::Bad => Ok(Answer::Bad),
         }
@@ -91,6 +97,8 @@ impl Datum for Answer {
             ) => from == other_from && msg.is_same(other_msg),
             (Answer::Closed, Answer::Closed) => true,
             (Answer::Number(a), Answer::Number(b)) => a == b,
+            (Answer::Minus, Answer::Minus) => true,
+            (Answer::Text(a), Answer::Text(b)) => a.is_same(b),
             (Answer::Io(a), Answer::Io(b)) => a.is_same(b),
             (Answer::Bad, Answer::Bad) => true,
             _ => false,

@@ -74,13 +74,38 @@ fn a_list_gives_its_items(rt: HostRuntime) -> Result<(), Fail> {
     Ok(())
 }
 
+fn thread_requests(alloc: Global) -> Result<Room<Request>, NoMemory> {
+    let text = Msg::from_slice(alloc, b"a text that is shared")?;
+    let mut all = Room::new(alloc);
+    all.reserve(15)?;
+    for request in [
+        ThreadReq::ThreadCreate { program: 1, arg: 2 },
+        ThreadReq::ProcCreate { program: 1, arg: 2 },
+        ThreadReq::ThreadExits { text: text.copy()? },
+        ThreadReq::ThreadExitsAll { text: text.copy()? },
+        ThreadReq::Yield,
+        ThreadReq::ThreadId,
+        ThreadReq::ThreadPid { tid: 1 },
+        ThreadReq::ThreadGetGrp,
+        ThreadReq::ThreadSetGrp { group: 1 },
+        ThreadReq::ThreadSetName { name: text },
+        ThreadReq::ThreadGetName,
+        ThreadReq::ThreadWord,
+        ThreadReq::ThreadSetWord { word: 1 },
+        ThreadReq::ProcWord,
+        ThreadReq::ProcSetWord { word: 1 },
+    ] {
+        if all.spare() > 0 {
+            all.push(Request::Thread(request));
+        }
+    }
+    Ok(all)
+}
+
 fn requests(alloc: Global) -> Result<Room<Request>, NoMemory> {
     let value = Msg::from_slice(alloc, b"a message that is shared")?;
-    let mut all = Room::new(alloc);
-    all.reserve(8)?;
-    all.push(Request::Thread(ThreadReq::ThreadExits {
-        text: value.copy()?,
-    }));
+    let mut all = thread_requests(alloc)?;
+    all.reserve(7)?;
     all.push(Request::Chan(ChanReq::ChanClose { chan: 1 }));
     all.push(Request::Chan(ChanReq::Send {
         chan: 1,
@@ -106,7 +131,7 @@ fn requests(alloc: Global) -> Result<Room<Request>, NoMemory> {
 fn replies(alloc: Global) -> Result<Room<Reply>, NoMemory> {
     let value = Msg::from_slice(alloc, b"a message that is shared")?;
     let mut all = Room::new(alloc);
-    all.reserve(8)?;
+    all.reserve(10)?;
     all.push(Reply::Waits);
     all.push(Reply::Ended);
     all.push(Reply::Begin(1, 2, 3));
@@ -119,6 +144,8 @@ fn replies(alloc: Global) -> Result<Room<Reply>, NoMemory> {
     ));
     all.push(Reply::Turn(1, Answer::Io(IoAnswer::Bytes(value.copy()?))));
     all.push(Reply::Now(Answer::Number(5)));
+    all.push(Reply::Now(Answer::Minus));
+    all.push(Reply::Now(Answer::Text(value.copy()?)));
     all.push(Reply::Took(IoCall::IoReadN(6)));
     all.push(Reply::Noted);
     Ok(all)

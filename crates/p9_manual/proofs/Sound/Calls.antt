@@ -1,9 +1,9 @@
 -- The calls in which threads wait, against the calls that the ioprocs have.
-use Rattle.std.proofs.Common.{◌≡◌, ◌≢◌, inl, inr, ℕ, suc, ◌+◌, ◌-◌, ◌≤◌, Bool, true, false, not, cond, eqb, ltb, List, [], ◌∷◌, ◌++◌, map, Option, Some, None, refl, ap, sym, subst, ◌∙◌, arith, rules, tests, append-nil}
-use Rattle.std.specs.Prelude.{slice_get, option_map}
+use Rattle.std.proofs.Common.{◌≡◌, ◌≢◌, inl, inr, ℕ, suc, ◌+◌, ◌-◌, ◌≤◌, Bool, true, false, not, cond, eqb, List, [], ◌∷◌, ◌++◌, map, Option, Some, None, refl, ap, sym, subst, ◌∙◌, arith, rules, tests, append-nil}
+use Rattle.std.specs.Prelude.{option_map}
 use Rattle.std.specs.List.{filter}
 use Rattle.std.proofs.lemmas.Bool.{cases_eq}
-use Rattle.std.proofs.lemmas.Option.{some_pair_parts, slice_get-map}
+use Rattle.std.proofs.lemmas.Option.{some_pair_parts}
 use Rattle.std.proofs.lemmas.List.Elements.{filter-append}
 use Rattle.std.proofs.lemmas.List.Concat.{flat_map-append}
 use Rattle.p9_word.specs.declared.request.Request.{Request}
@@ -16,12 +16,12 @@ use Rattle.p9_manual.specs.declared.state.Waiter.{Waiter}
 use Rattle.p9_manual.specs.declared.state.Ioproc.{Ioproc}
 use Rattle.p9_manual.specs.declared.state.Ioproc.TheVariants.{Unmade, Idle, Posted, Begun, Closed}
 use Rattle.p9_manual.specs.Effects.{message_length}
-use Rattle.p9_manual.specs.Threads.{let_go}
+use Rattle.p9_manual.specs.Ends.{let_go}
 use Rattle.p9_manual.specs.State.{by_id, changed, pick, behind, waits_without}
 use Rattle.p9_manual.specs.Standing.{StandOnce, times, place_of}
 use Rattle.p9_manual.specs.Sound.{CallsMatch, call_in, call_at, waiting_calls, call_of, message_at}
 use Rattle.p9_manual.proofs.Sound.Counts.{filter_none, times-append}
-use Rattle.p9_manual.proofs.Sound.Places.{by_id-changed_same, by_id-changed_other}
+use Rattle.p9_manual.proofs.Sound.Places.{by_id-changed_same, by_id-changed_other, by_id-map}
 use Rattle.p9_manual.proofs.Sound.Stand.{eqb_same, eqb_other, waits_once}
 
 -- one more wait
@@ -223,13 +223,6 @@ done_match threads line waits ioprocs t k call e stand match' =
     done_elsewhere : (j : ℕ) → j ≢ k → filter (is_not_for t) (waiting_calls j waits) ≡ call_of (by_id (changed (λ _. Idle) ioprocs (k - 1)) j)
     done_elsewhere j ne =
         filter_none (is_for t) (waiting_calls j waits) (none_else j ne) ∙ match'.calls j ∙ sym (ap call_of (by_id-changed_other (λ _. Idle) ioprocs k j (Begun (Some t) call) e ne))
-
-by_id-map_step : {A B : Type 0} (f : A → B) (b : Bool) (o : Option A) (r : Option B) → r ≡ option_map f o → cond b r None ≡ option_map f (cond b o None)
-by_id-map_step f true o r h = h
-by_id-map_step f false o r h = refl
-
-by_id-map : {A B : Type 0} (f : A → B) (xs : List A) (k : ℕ) → by_id (map f xs) k ≡ option_map f (by_id xs k)
-by_id-map f xs k = by_id-map_step f (ltb 0 k) (slice_get xs (k - 1)) (slice_get (map f xs) (k - 1)) (slice_get-map f xs (k - 1))
 
 posted_let_go : (t u : ℕ) (call : IoCall) (b : Bool) → eqb u t ≡ b → call_of (Some (cond b Idle (Posted u call))) ≡ filter (is_not_for t) ((u, call) ∷ [])
 posted_let_go t u call true h = rw h refl

@@ -1,5 +1,5 @@
 -- Each step keeps a sound state sound, one that makes no entry changes nothing, and the first state is sound.
-use Rattle.std.proofs.Common.{◌≡◌, zero-add, ℕ, zero, suc, ◌+◌, ◌<◌, Bool, true, false, cond, ◌&&◌, eqb, List, [], ◌∷◌, map, replicate, Option, Some, None, refl, subst, sym, arith, rules, tests}
+use Rattle.std.proofs.Common.{◌≡◌, zero-add, ℕ, zero, suc, ◌+◌, ◌<◌, true, false, eqb, List, [], ◌∷◌, map, replicate, Option, Some, None, refl, subst, sym, arith, rules, tests}
 use Rattle.std.specs.Prelude.{slice_get, All}
 use Rattle.std.specs.List.{fold}
 use Rattle.std.proofs.lemmas.List.Elements.{All-map, All-weaker}
@@ -15,6 +15,7 @@ use Rattle.p9_word.specs.declared.trail.Event.{Event}
 use Rattle.p9_word.specs.declared.trail.Event.TheVariants.{Call, Next, IoTake, IoDid}
 use Rattle.p9_word.specs.declared.trail.Entry.{Entry}
 use Rattle.p9_word.specs.declared.trail.Reply.TheVariants.{Stray, Begin}
+use Rattle.p9_manual.specs.declared.state.Place.TheVariants.{New}
 use Rattle.p9_manual.specs.declared.state.Ioproc.{Ioproc}
 use Rattle.p9_manual.specs.declared.state.Ioproc.TheVariants.{Unmade}
 use Rattle.p9_manual.specs.Places.{runs_in, runs_there}
@@ -24,7 +25,7 @@ use Rattle.p9_manual.specs.History.{state_after, begin_state, after_entry, ids_f
 use Rattle.p9_manual.specs.Standing.{times, place_of, place_in, times_in_line, times_in_waits}
 use Rattle.p9_manual.specs.Sound.{IsSound, IsThreadIn, CallsMatch, call_of, message_at}
 use Rattle.p9_manual.proofs.Sound.Places.{by_id-suc}
-use Rattle.p9_manual.proofs.Sound.Running.{place_runs}
+use Rattle.p9_manual.proofs.Sound.Running.{at_rest, place_runs}
 use Rattle.p9_manual.proofs.Sound.Waits.{nobody_rightly}
 use Rattle.p9_manual.proofs.Sound.Outcomes.{IsFine, IsSafe, BeginsOneOf, RunsIn, fine_safe, same_safe, if_safe}
 use Rattle.p9_manual.proofs.Sound.Threads.{thread_call_fine}
@@ -111,13 +112,9 @@ none_waits : (xs : List ThreadSetup) (t : ℕ) → 0 ≡ times_in_waits (place_o
 none_waits xs zero = refl
 none_waits xs (suc i) = rw by_id-suc (begin_waits xs i)
 
-no_one : (b : Bool) → cond {A = ℕ} (b && false) 1 0 ≡ 0
-no_one true = refl
-no_one false = refl
-
 begin_runs : (p : ℕ) → (xs : List ThreadSetup) → times (runs_in p) (map new_thread xs) ≡ 0
 begin_runs p [] = refl
-begin_runs p (x ∷ xs) = rw (no_one (eqb x.proc_no p), begin_runs p xs) refl
+begin_runs p (x ∷ xs) = rw (at_rest (eqb x.proc_no p) New refl, begin_runs p xs) refl
 
 unmade : (o : Option Ioproc) → Type 0
 unmade o = (call_of o ≡ []) × (message_at o ≡ 0)

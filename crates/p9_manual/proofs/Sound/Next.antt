@@ -1,7 +1,7 @@
 -- The turns of procs keep a sound state sound.
-use Rattle.std.proofs.Common.{◌≡◌, ℕ, zero, suc, ◌+◌, ◌-◌, true, false, not, eqb, List, [], ◌∷◌, Option, Some, None, refl, subst, arith}
-use Rattle.std.specs.Prelude.{option_map, slice_get, All}
-use Rattle.std.specs.List.{list_any, AllByRecursion}
+use Rattle.std.proofs.Common.{◌≡◌, ℕ, ◌+◌, true, false, not, eqb, List, Option, Some, None, refl, arith}
+use Rattle.std.specs.Prelude.{option_map}
+use Rattle.std.specs.List.{list_any}
 use Rattle.p9_word.specs.declared.setup.Setup.{Setup}
 use Rattle.p9_word.specs.declared.trail.Reply.TheVariants.{Stray, Over, Idle}
 use Rattle.p9_manual.specs.declared.state.Place.{Place}
@@ -13,11 +13,9 @@ use Rattle.p9_manual.specs.Stuck.{is_stuck}
 use Rattle.p9_manual.specs.Next.{next_event, next_of, turn, turn_reply, started, stuck, is_place, is_over}
 use Rattle.p9_manual.specs.Step.{makes_entry}
 use Rattle.p9_manual.specs.Standing.{times, place_in, times_in_line}
-use Rattle.p9_manual.specs.Sound.{IsSound, IsThreadIn}
-use Rattle.std.proofs.lemmas.List.Elements.{recursion_from_All}
+use Rattle.p9_manual.specs.Sound.{IsSound}
 use Rattle.p9_word.specs.Setup.{IsBetween}
-use Rattle.p9_manual.proofs.Sound.Places.{get_from_by_id}
-use Rattle.p9_manual.proofs.Sound.Stand.{turn_stands, picked_counts, members_placed}
+use Rattle.p9_manual.proofs.Sound.Stand.{turn_stands, picked_counts, members_placed, member_at}
 use Rattle.p9_manual.proofs.Sound.Outcomes.{IsSafe, BeginsOneOf, if_safe, same_safe}
 
 turn_makes : (t program arg n : ℕ) (pl : Place) → 1 + n ≡ times_in_line pl → makes_entry (turn_reply t (program, arg, pl)) ≡ true
@@ -33,16 +31,6 @@ turn_begins setup t arg program (Ready a) h = tt
 turn_begins setup t arg program Running h = tt
 turn_begins setup t arg program Waiting h = tt
 turn_begins setup t arg program Ended h = tt
-
-member_from : (opened programs : ℕ) → (threads : List Thread) (i : ℕ) (thread : Thread) → AllByRecursion (IsThreadIn opened programs) threads → slice_get threads i ≡ Some thread → IsThreadIn opened programs thread
-member_from opened programs [] i thread h e = cc
-member_from opened programs (x ∷ xs) zero thread h e = let same : x ≡ thread = cc in subst (λ (y : Thread). IsThreadIn opened programs y) same h.0
-member_from opened programs (x ∷ xs) (suc i) thread h e = member_from opened programs xs i thread h.1 e
-
--- what holds of all threads holds of the one with this id
-member_at : (opened programs : ℕ) (threads : List Thread) (t : ℕ) (thread : Thread) → All (IsThreadIn opened programs) threads → by_id threads t ≡ Some thread → IsThreadIn opened programs thread
-member_at opened programs threads t thread h e =
-    member_from opened programs threads (t - 1) thread (recursion_from_All (IsThreadIn opened programs) threads h) (get_from_by_id threads t thread e)
 
 -- the thread that is picked from the line runs, and there is an entry
 turn_safe : (setup : Setup) (p t : ℕ) (rest : List ℕ) (s : State) (o : Option Thread) → by_id s.threads t ≡ o → 1 + times (λ u. eqb u t) rest ≡ times_in_line (place_in o) → list_any (runs_in p) s.threads ≡ false → pick (λ u. is_of p (by_id s.threads u)) s.line ≡ Some (t, rest) → IsSound setup s → IsSafe setup s (turn t (record s { line = rest }) (option_map started o))

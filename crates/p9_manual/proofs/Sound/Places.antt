@@ -1,8 +1,9 @@
 -- Items by their ids, and the place of a thread, after one was changed.
-use Rattle.std.proofs.Common.{◌≡◌, ◌≢◌, ℕ, zero, suc, ◌-◌, Bool, true, false, cond, ltb, List, [], ◌∷◌, Option, Some, None, refl, ap, sym, arith, rules, tests}
+use Rattle.std.proofs.Common.{◌≡◌, ◌≢◌, ℕ, zero, suc, ◌+◌, ◌-◌, Bool, true, false, cond, ltb, List, [], ◌∷◌, ◌++◌, length, map, Option, Some, None, refl, ap, sym, ◌∙◌, add-one, arith, rules, tests}
 use Rattle.std.specs.Prelude.{slice_get, option_map}
+use Rattle.std.proofs.lemmas.Option.{slice_get-map}
 use Rattle.p9_manual.specs.declared.state.Place.{Place}
-use Rattle.p9_manual.specs.declared.state.Place.TheVariants.{Ended}
+use Rattle.p9_manual.specs.declared.state.Place.TheVariants.{Running, Ended}
 use Rattle.p9_manual.specs.declared.state.Thread.{Thread}
 use Rattle.p9_manual.specs.State.{by_id, changed, placed, at_place}
 use Rattle.p9_manual.specs.Standing.{place_of, place_in}
@@ -59,3 +60,42 @@ get_step false o x h = cc
 
 pub get_from_by_id : (threads : List Thread) (t : ℕ) (thread : Thread) → by_id threads t ≡ Some thread → slice_get threads (t - 1) ≡ Some thread
 get_from_by_id threads t thread e = get_step (ltb 0 t) (slice_get threads (t - 1)) thread e
+
+by_id-map_step : {A B : Type 0} (f : A → B) (b : Bool) (o : Option A) (r : Option B) → r ≡ option_map f o → cond b r None ≡ option_map f (cond b o None)
+by_id-map_step f true o r h = h
+by_id-map_step f false o r h = refl
+
+-- each item of a mapped list
+pub by_id-map : {A B : Type 0} (f : A → B) (xs : List A) (k : ℕ) → by_id (map f xs) k ≡ option_map f (by_id xs k)
+by_id-map f xs k = by_id-map_step f (ltb 0 k) (slice_get xs (k - 1)) (slice_get (map f xs) (k - 1)) (slice_get-map f xs (k - 1))
+
+slice_get-push_same : {A : Type 0} (y : A) → (xs : List A) → slice_get (xs ++ y ∷ []) (length xs) ≡ Some y
+slice_get-push_same y [] = refl
+slice_get-push_same y (x ∷ xs) = slice_get-push_same y xs
+
+slice_get-push_other : {A : Type 0} (y : A) → (xs : List A) (i : ℕ) → i ≢ length xs → slice_get (xs ++ y ∷ []) i ≡ slice_get xs i
+slice_get-push_other y [] zero ne = absurd (ne refl)
+slice_get-push_other y [] (suc i) ne = refl
+slice_get-push_other y (x ∷ xs) zero ne = refl
+slice_get-push_other y (x ∷ xs) (suc i) ne = slice_get-push_other y xs i (λ e. ne (ap suc e))
+
+slice_get-past : {A : Type 0} → (xs : List A) → slice_get xs (length xs) ≡ None
+slice_get-past [] = refl
+slice_get-past (x ∷ xs) = slice_get-past xs
+
+-- one more item has the next id
+pub by_id-push_same : {A : Type 0} (y : A) (xs : List A) → by_id (xs ++ y ∷ []) (length xs + 1) ≡ Some y
+by_id-push_same y xs = rw (add-one, by_id-suc) (slice_get-push_same y xs)
+
+-- and the others are as before
+pub by_id-push_other : {A : Type 0} (y : A) (xs : List A) (k : ℕ) → k ≢ length xs + 1 → by_id (xs ++ y ∷ []) k ≡ by_id xs k
+by_id-push_other y xs zero ne = refl
+by_id-push_other y xs (suc k) ne = rw (by_id-suc (xs ++ y ∷ []) k, by_id-suc xs k) (slice_get-push_other y xs k (λ e. ne (ap suc e ∙ sym (add-one (length xs)))))
+
+-- nothing has that id before
+pub by_id-past : {A : Type 0} (xs : List A) → by_id xs (length xs + 1) ≡ None
+by_id-past xs = rw (add-one, by_id-suc) (slice_get-past xs)
+
+-- a thread that runs was made before the next one
+pub runs_before : (threads : List Thread) (t : ℕ) → place_of threads t ≡ Running → t ≢ length threads + 1
+runs_before threads t runs e = let past = ap (place_of threads) e ∙ ap place_in (by_id-past threads) in cc

@@ -8,7 +8,8 @@ use Rattle.p9_manual.specs.State.{changed, at_place}
 use Rattle.p9_manual.specs.Places.{runs_in, runs_there, is_running}
 use Rattle.p9_manual.specs.Standing.{times, place_in}
 
-at_rest : (b : Bool) (pl : Place) → is_running pl ≡ false → cond {A = ℕ} (b && is_running pl) 1 0 ≡ 0
+-- a thread that isn't at the place Running isn't counted
+pub at_rest : (b : Bool) (pl : Place) → is_running pl ≡ false → cond {A = ℕ} (b && is_running pl) 1 0 ≡ 0
 at_rest true pl h = rw h refl
 at_rest false pl h = refl
 

@@ -1,8 +1,9 @@
 -- Threads, line and waits after a thread was put somewhere.
-use Rattle.std.proofs.Common.{◌≡◌, ◌≢◌, inl, inr, ℕ, ◌+◌, ◌-◌, ◌≤◌, Bool, true, false, not, cond, eqb, List, [], ◌∷◌, ◌++◌, map, Option, Some, refl, ap, sym, subst, ◌∙◌, arith, rules, tests, append_assoc, append-nil}
-use Rattle.std.specs.Prelude.{All}
-use Rattle.std.specs.List.{filter, list_any}
+use Rattle.std.proofs.Common.{◌≡◌, ◌≢◌, inl, inr, ℕ, zero, suc, ◌+◌, ◌-◌, ◌≤◌, Bool, true, false, not, cond, eqb, List, [], ◌∷◌, ◌++◌, map, Option, Some, refl, ap, sym, subst, ◌∙◌, arith, rules, tests, append_assoc, append-nil}
+use Rattle.std.specs.Prelude.{All, slice_get}
+use Rattle.std.specs.List.{filter, list_any, AllByRecursion}
 use Rattle.std.proofs.lemmas.Bool.{cases_eq}
+use Rattle.std.proofs.lemmas.List.Elements.{recursion_from_All}
 use Rattle.p9_word.specs.declared.answer.Answer.{Answer}
 use Rattle.p9_word.specs.declared.answer.Answer.TheVariants.{Closed}
 use Rattle.p9_manual.specs.declared.state.Place.{Place}
@@ -202,3 +203,13 @@ members_placed opened programs t pl threads h =
 pub members_closed : (opened programs : ℕ) → (ws : List Waiter) (threads : List Thread) → All (IsThreadIn opened programs) threads → All (IsThreadIn opened programs) (all_closed ws threads)
 members_closed opened programs [] threads h = h
 members_closed opened programs (w ∷ ws) threads h = members_closed opened programs ws (placed w.tid (Ready Closed) threads) (members_placed opened programs w.tid (Ready Closed) threads h)
+
+member_from : (opened programs : ℕ) → (threads : List Thread) (i : ℕ) (thread : Thread) → AllByRecursion (IsThreadIn opened programs) threads → slice_get threads i ≡ Some thread → IsThreadIn opened programs thread
+member_from opened programs [] i thread h e = cc
+member_from opened programs (x ∷ xs) zero thread h e = let same : x ≡ thread = cc in subst (λ (y : Thread). IsThreadIn opened programs y) same h.0
+member_from opened programs (x ∷ xs) (suc i) thread h e = member_from opened programs xs i thread h.1 e
+
+-- what holds of all threads holds of the one with this id
+pub member_at : (opened programs : ℕ) (threads : List Thread) (t : ℕ) (thread : Thread) → All (IsThreadIn opened programs) threads → by_id threads t ≡ Some thread → IsThreadIn opened programs thread
+member_at opened programs threads t thread h e =
+    member_from opened programs threads (t - 1) thread (recursion_from_All (IsThreadIn opened programs) threads h) (get_from_by_id threads t thread e)

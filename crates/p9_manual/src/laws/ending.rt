@@ -5,7 +5,7 @@ ghost use Rattle.p9_word.specs.declared.setup.Setup.{Setup};
 ghost use Rattle.p9_word.specs.declared.trail.Entry.{Entry};
 ghost use Rattle.p9_manual.specs.Ending.{EndsOver};
 
-/// Where the turns of each open proc are over, the last entry is Stuck or no thread lives.
+/// Where the turns of each proc place are over, the last entry is Stuck or no thread lives.
 pub fn runs_end()
     ensures { (setup : Setup) (entries : List Entry) → EndsOver setup entries }
 {}

@@ -1,7 +1,7 @@
 use Rattle.std.proofs.Common.{sym, ◌∙◌, arith}
 use Rattle.p9_machine.specs.declared.desk.Desk.{Desk}
 use Rattle.std.proofs.Common.{add-one}
-use Rattle.p9_manual.specs.Threads.{let_go}
+use Rattle.p9_manual.specs.Ends.{let_go}
 use Rattle.p9_machine.specs.Desks.{ioprocs_of}
 use Rattle.p9_machine.proofs.Places.{map_set_same, from_more, from_end_map, count_let_go}
 use Rattle.p9_machine.proofs.desks.let_all_go.Goals as goal

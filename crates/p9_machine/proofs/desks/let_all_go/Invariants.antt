@@ -1,5 +1,5 @@
 use Rattle.std.proofs.Common.{◌≡◌, map}
-use Rattle.p9_manual.specs.Threads.{let_go}
+use Rattle.p9_manual.specs.Ends.{let_go}
 use Rattle.p9_machine.specs.Desks.{ioprocs_of, rooms_of}
 use Rattle.p9_machine.proofs.Places.{from}
 use Rattle.p9_machine.proofs.desks.let_all_go.Given as goal

@@ -14,7 +14,7 @@ use Rattle.p9_machine.proofs.Keeps.{follows_by, taken}
 use Rattle.p9_machine.proofs.ioprocs.take_call.Goals as goal
 
 pub returns-in-Some-Posted : goal.returns-in-Some-Posted
-returns-in-Some-Posted c =
+returns-in-Some-Posted c = λ line u.
     let found : by_id (ioprocs_of c.args.board.now.desks.items) c.args.k ≡ Some (Posted c.in-Some-Posted.field-0-0 c.in-Some-Posted.call) = cc (c.in-Some-Posted.ensures.found, c.deref.ensures.value, c.in-Some-Posted.field-0-is) in
     let at : slice_get (ioprocs_of c.args.board.now.desks.items) (c.args.k - 1) ≡ Some (Posted c.in-Some-Posted.field-0-0 c.in-Some-Posted.call) = cc (c.in-Some-Posted.ensures.at, c.deref.ensures.value, c.in-Some-Posted.field-0-is) in
     let its : (with_items c.args.board.now.desks c.begin.new.desks).items ≡ c.begin.new.desks = with_items_is c.args.board.now.desks c.begin.new.desks (omega (arith, c.begin.auto.desks, c.deref_mut.ensures.len)) in
@@ -24,10 +24,14 @@ returns-in-Some-Posted c =
     let io : ioprocs_of c.begin.new.desks ≡ changed (λ _. Begun (Some c.in-Some-Posted.field-0-0) c.in-Some-Posted.call) (ioprocs_of c.args.board.now.desks.items) (c.args.k - 1) = c.begin.ensures.ioprocs ∙ (ap (λ (ios : List Ioproc). changed begun ios (c.args.k - 1)) d ∙ f) in
     let rooms : rooms_of (with_items c.args.board.now.desks c.begin.new.desks).items ≡ changed (λ _. true) (rooms_of c.args.board.now.desks.items) (c.args.k - 1) = ap rooms_of its ∙ (c.begin.ensures.rooms ∙ ap (λ bs. changed (λ _. true) bs (c.args.k - 1)) r) in
     let calls : begun_count (ioprocs_of (with_items c.args.board.now.desks c.begin.new.desks).items) ≤ begun_count (ioprocs_of c.args.board.now.desks.items) + 1 = omega (arith, c.begin.ensures.calls, ap begun_count d, ap begun_count (ap ioprocs_of its)) in
-    follows_by _ _ _ _ _ _ (taken c.args.k (state_of c.args.board.now) _ c.in-Some-Posted.field-0-0 c.in-Some-Posted.call found (sym c.if-is_over.ensures)) (record {
+    follows_by _ _ _ _ _ _ _ (taken c.args.k (state_of c.args.board.now line) _ c.in-Some-Posted.field-0-0 c.in-Some-Posted.call found (sym c.if-is_over.ensures)) (record {
       reply_is = ap Took c.copy_call-told.ensures;
-      state_is = ap (λ (ios : List Ioproc). record (state_of c.args.board.now) { ioprocs = ios }) (ap ioprocs_of its ∙ io);
+      stands = record {
+        state = ap (λ (ios : List Ioproc). record (state_of c.args.board.now line) { ioprocs = ios }) (ap ioprocs_of its ∙ io);
+        parts = u.parts;
+      };
       setup = refl;
+      places = refl;
       rooms = rooms;
       calls = calls;
     })

@@ -1,5 +1,5 @@
 -- What is left of the path begins at the byte that is looked at.
-use Rattle.std.proofs.Common.{ℕ, ◌≡◌, ◌+◌, ◌-◌, ◌≤◌, length, drop}
+use Rattle.std.proofs.Common.{◌≡◌, ◌+◌, ◌-◌, ◌≤◌, length, drop}
 use Rattle.std.specs.List.{prefix_len}
 use Rattle.p9_run.specs.CopyText.{is_path_byte}
 use Rattle.p9_run.proofs.copy_text.split_path.Given as goal

@@ -1,4 +1,3 @@
-use Rattle.std.proofs.Common.{map, string_bytes}
 use Rattle.p9_run.proofs.Lifts.{called}
 use Rattle.p9_run.proofs.program.pipe_main.Goals as goal
 

@@ -1,16 +1,26 @@
-use Rattle.std.proofs.Common.{rules, sym, ap, ◌∙◌}
+use Rattle.std.proofs.Common.{List, subst, rules, sym, ap, ◌∙◌}
 use Rattle.p9_word.specs.declared.setup.Setup.{Setup}
-use Rattle.p9_machine.specs.Board.{state_of}
-use Rattle.p9_machine.proofs.Keeps.{goes_on_at}
+use Rattle.p9_word.specs.declared.trail.Entry.{Entry}
+use Rattle.p9_manual.specs.Sound.{IsSound}
+use Rattle.p9_manual.specs.State.{State}
+use Rattle.p9_manual.specs.History.{state_after}
+use Rattle.p9_machine.proofs.Keeps.{stands_on, usable_now}
 use Rattle.p9_machine.proofs.machine.Machine.enter.Goals as goal
+
+pub enter-requires-clause-board : goal.enter-requires-clause-board
+enter-requires-clause-board c = ((state_after c.self.inside.board.setup c.self.inside.trail.entries.items).line, usable_now c.self.inside c.self.invariant (subst (λ (es : List Entry). IsSound c.self.inside.board.setup (state_after c.self.inside.board.setup es)) c.as_slice.ensures c.states_are_sound.ensures))
 
 pub invariant_of-self : goal.invariant_of-self
 invariant_of-self c =
-    let on = goes_on_at c.self.inside.board.setup c.enter.new.board.setup c.self.inside.trail.entries.items c.enter.new.entries.items _ _ c.enter.result (state_of c.self.inside.board) (state_of c.enter.new.board) c.enter.ensures.setup c.self.invariant.board c.self.invariant.legal c.self.invariant.counted c.enter.ensures.reply c.enter.ensures.board c.enter.ensures.entries in
+    let line = (state_after c.self.inside.board.setup c.self.inside.trail.entries.items).line in
+    let usable = usable_now c.self.inside c.self.invariant (subst (λ (es : List Entry). IsSound c.self.inside.board.setup (state_after c.self.inside.board.setup es)) c.as_slice.ensures c.states_are_sound.ensures) in
+    let on = stands_on c.self.inside.board.setup c.enter.new.board.setup c.self.inside.trail.entries.items c.enter.new.entries.items _ _ c.enter.result c.self.inside.board c.enter.new.board c.enter.ensures.setup c.self.invariant.board c.self.invariant.legal (sym (ap (λ (s : State). s.entries) c.self.invariant.board.state) ∙ c.self.invariant.counted) (c.enter.ensures.reply line usable) (c.enter.ensures.board line usable) c.enter.ensures.entries in
     record {
-      board = on.state_is;
-      legal = on.legal;
-      counted = on.counted;
+      valid = rw c.enter.ensures.setup c.self.invariant.valid;
+      board = on.1;
+      places = rw (c.enter.ensures.places, c.enter.ensures.setup) c.self.invariant.places;
+      legal = on.0.legal;
+      counted = ap (λ (s : State). s.entries) on.1.state ∙ on.0.counted;
       procs = c.self.invariant.procs ∙ ap (λ (s : Setup). s.procs) (sym c.enter.ensures.setup);
       start = c.self.invariant.start ∙ ap (λ (s : Setup). s.start) (sym c.enter.ensures.setup);
       spare = c.enter.ensures.spare;

@@ -8,5 +8,5 @@ use Rattle.p9_machine.proofs.machine.Machine.files.Goals as goal
 pub returns-clause-rooms : goal.returns-clause-rooms
 returns-clause-rooms c =
     let desks = c.self.inside.board.desks.items in
-    let same = length-map desks (λ d. d.is_here) ∙ sym (length-map desks (λ d. d.ioproc)) ∙ ap (λ (s : State). length s.ioprocs) c.self.invariant.board in
+    let same = length-map desks (λ d. d.is_here) ∙ sym (length-map desks (λ d. d.ioproc)) ∙ ap (λ (s : State). length s.ioprocs) c.self.invariant.board.state in
     subst (λ (m : Shown). length m.rooms ≡ length (state_after m.setup m.entries).ioprocs) c.self.view_is same

@@ -8,7 +8,7 @@ use Rattle.p9_manual.specs.Files.{TreatsAsFile, at_first}
 use Rattle.p9_manual.specs.FilesInHistory.{services_at, calls_at, effects_at}
 use Rattle.p9_manual.specs.History.{state_after}
 use Rattle.p9_manual.specs.Step.{step, outcome, called, served}
-use Rattle.p9_manual.specs.Threads.{thread_call}
+use Rattle.p9_manual.specs.Threads.{thread_call, asked}
 use Rattle.p9_manual.specs.Chans.{chan_call}
 use Rattle.p9_manual.specs.Ioprocs.{io_call, io_event}
 use Rattle.p9_manual.specs.Next.{next_event}
@@ -74,6 +74,6 @@ output = (
 )
 
 pub returns : goal.returns
-unfolding calls_at effects_at state_after step outcome called served thread_call chan_call io_call io_event next_event
+unfolding calls_at effects_at state_after step outcome called served thread_call asked chan_call io_call io_event next_event
 returns c =
     record { valid = valid; over = refl; input = input; output = output; input_done = refl; output_done = refl; gave = refl; took = refl }

@@ -5,7 +5,7 @@ use Rattle.p9_word.specs.declared.trail.Reply.TheVariants.{Turn}
 use Rattle.p9_manual.specs.Examples.{hi, turns, copy_setup, swapped}
 use Rattle.p9_manual.specs.History.{state_after}
 use Rattle.p9_manual.specs.Step.{step, outcome, called, served}
-use Rattle.p9_manual.specs.Threads.{thread_call}
+use Rattle.p9_manual.specs.Threads.{thread_call, asked}
 use Rattle.p9_manual.specs.Chans.{chan_call}
 use Rattle.p9_manual.specs.Ioprocs.{io_call, io_event}
 use Rattle.p9_manual.specs.Next.{next_event}
@@ -19,6 +19,6 @@ that_entry : (e : Entry) → Some (turns (Turn 1 Sent)) ≡ Some e → turns (Tu
 that_entry e at = cc
 
 pub returns : goal.returns
-unfolding state_after step outcome called served thread_call chan_call io_call io_event next_event
+unfolding state_after step outcome called served thread_call asked chan_call io_call io_event next_event
 returns c =
     ((refl, refl, (refl, refl, (refl, refl, (refl, refl, (refl, refl, (refl, refl, (refl, refl, (refl, refl, (refl, refl, (refl, refl, (refl, refl, (refl, refl, (refl, refl, (refl, refl, (refl, refl, (refl, refl, (refl, refl, (refl, refl, tt)))))))))))))))))), λ e at. subst (λ (x : Entry). x.reply ≡ (step copy_setup x.seat x.event (state_after copy_setup (take 18 swapped))).reply → ⊥) (that_entry e at) other_reply)

@@ -1,0 +1,11 @@
+pub mod Lists
+pub mod Rooms
+pub mod Threads
+pub mod Seen
+pub mod Counts
+pub mod Keeping
+pub mod Sound
+pub mod Asks
+pub mod Views
+pub mod Nexts
+pub mod Anywhere

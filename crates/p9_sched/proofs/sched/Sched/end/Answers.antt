@@ -1,0 +1,42 @@
+use Rattle.std.proofs.Common.{sym, subst, refl}
+use Rattle.p9_manual.specs.declared.state.Place.TheVariants.{Ended}
+use Rattle.p9_manual.specs.State.{by_id, placed}
+use Rattle.p9_sched.specs.Lined.{left}
+use Rattle.p9_sched.specs.Schedule.{Schedule, without}
+use Rattle.p9_sched.proofs.Keeping.{left_lane}
+use Rattle.p9_sched.proofs.Lists.{id_of}
+use Rattle.p9_sched.proofs.Sound.{moved, proc_is}
+use Rattle.p9_sched.proofs.Views.{alive_here, slot_proc, seen_proc, seen_place, moved_view}
+use Rattle.p9_sched.proofs.sched.Sched.end.Goals as goal
+
+pub slot-requires : goal.slot-requires
+slot-requires c =
+    let a = alive_here c.self.inside c.args.self.now c.args.t c.self.view_is c.requires in
+    id_of c.self.inside.table.threads c.args.t a.thread a.there
+
+pub leave-requires : goal.leave-requires
+leave-requires c =
+    let a = alive_here c.self.inside c.args.self.now c.args.t c.self.view_is c.requires in
+    let mine = slot_proc (by_id c.self.inside.table.threads c.args.t) a.thread c.slot.result.now a.there c.slot.ensures in
+    proc_is c.self.inside.table.threads c.self.inside.lanes c.self.inside.table.rooms.thread c.args.t c.slot.result.now.proc_no a.thread a.there mine c.self.invariant
+
+pub invariant_of-self : goal.invariant_of-self
+invariant_of-self c =
+    let a = alive_here c.self.inside c.args.self.now c.args.t c.self.view_is c.requires in
+    let mine = slot_proc (by_id c.self.inside.table.threads c.args.t) a.thread c.slot.result.now a.there c.slot.ensures in
+    let p = c.slot.result.now.proc_no in
+    let more = c.self.inside.table.rooms.thread in
+    rw (c.put.ensures, c.leave.ensures) (moved c.self.inside.table.threads c.self.inside.lanes more c.args.t p a.thread Ended (left c.args.t) a.there mine (λ l _. left_lane p c.self.inside.table.threads more l c.args.t a.thread a.there mine a.alive) c.self.invariant)
+
+pub returns-clause-ended : goal.returns-clause-ended
+returns-clause-ended c =
+    let a = alive_here c.self.inside c.args.self.now c.args.t c.self.view_is c.requires in
+    let mine = slot_proc (by_id c.self.inside.table.threads c.args.t) a.thread c.slot.result.now a.there c.slot.ensures in
+    let p = c.slot.result.now.proc_no in
+    let pid = seen_proc c.self.inside c.args.self.now c.args.t p a.thread c.self.view_is a.there mine in
+    rw (pid, c.put.ensures, c.leave.ensures) (moved_view c.self.inside c.args.self.now (placed c.args.t Ended) (left c.args.t) (without c.args.t) p c.self.view_is (λ l. refl) (λ l. refl))
+
+pub returns-clause-place : goal.returns-clause-place
+returns-clause-place c =
+    let a = alive_here c.self.inside c.args.self.now c.args.t c.self.view_is c.requires in
+    seen_place c.self.inside c.args.self.now c.args.t a.thread c.self.view_is a.there c.self.invariant

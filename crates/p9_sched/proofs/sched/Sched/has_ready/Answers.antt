@@ -1,0 +1,10 @@
+use Rattle.std.proofs.Common.{ap, ◌∙◌}
+use Rattle.std.specs.List.{list_any}
+use Rattle.p9_manual.specs.Places.{stands_ready}
+use Rattle.p9_sched.specs.Schedule.{Schedule}
+use Rattle.p9_sched.proofs.Anywhere.{any_ready}
+use Rattle.p9_sched.proofs.sched.Sched.has_ready.Goals as goal
+
+pub returns : goal.returns
+returns c =
+    c.any_ready.ensures ∙ (any_ready c.self.inside.table.threads c.self.inside.lanes c.self.inside.table.rooms.thread c.self.invariant ∙ ap (λ (v : Schedule). list_any stands_ready v.threads) c.self.view_is)

@@ -1,0 +1,30 @@
+use Rattle.std.proofs.Common.{◌≡◌, ◌∙◌, ◌+◌, ◌<◌, length, true, refl, ap, subst, sym, arith}
+use Rattle.p9_manual.specs.Create.{fresh}
+use Rattle.p9_sched.specs.Kept.{IsSound}
+use Rattle.p9_sched.specs.Schedule.{Schedule}
+use Rattle.p9_sched.proofs.Sound.{made, room_new, few_live}
+use Rattle.p9_sched.proofs.Views.{place_id, made_view}
+use Rattle.p9_sched.proofs.sched.Sched.make_thread.Goals as goal
+
+pub join-requires-clause-room : goal.join-requires-clause-room
+join-requires-clause-room c =
+    let on : c.self.inside.table.rooms.thread ≡ true = ap (λ (v : Schedule). v.rooms.thread) c.self.view_is ∙ c.requires.room in
+    let sound : IsSound c.self.inside.table.threads c.self.inside.lanes true = rw (← on) c.self.invariant in
+    room_new c.self.inside.table.threads c.self.inside.lanes c.args.p sound
+
+pub join-requires-clause-few : goal.join-requires-clause-few
+join-requires-clause-few c =
+    few_live c.self.inside.table.threads c.self.inside.lanes c.self.inside.table.rooms.thread c.args.p (omega arith) c.self.invariant
+
+pub invariant_of-self : goal.invariant_of-self
+invariant_of-self c =
+    let on : c.self.inside.table.rooms.thread ≡ true = ap (λ (v : Schedule). v.rooms.thread) c.self.view_is ∙ c.requires.room in
+    let sound : IsSound c.self.inside.table.threads c.self.inside.lanes true = rw (← on) c.self.invariant in
+    let id = place_id c.self.inside c.args.self.now c.args.p c.self.view_is c.requires.place in
+    rw (c.add-t.ensures.table, c.join.ensures) (made c.self.inside.table.threads c.self.inside.lanes c.add-t.result (fresh c.args.p c.args.program c.args.arg c.args.group) c.add-t.ensures.id refl id (omega arith) sound)
+
+pub returns : goal.returns
+returns c =
+    let few : length c.self.inside.table.threads < 65536 = omega arith in
+    let view = made_view c.self.inside c.args.self.now c.args.p c.args.program c.args.arg c.args.group c.add-t.result c.self.view_is c.add-t.ensures.id in
+    (subst (λ (v : Schedule). length v.threads < 65536) c.self.view_is few, subst (λ (v : Schedule). c.add-t.result ≡ length v.threads + 1) c.self.view_is c.add-t.ensures.id, rw (c.add-t.ensures.table, c.join.ensures) view)

@@ -1,0 +1,18 @@
+use Rattle.std.proofs.Common.{◌∙◌, sym, ap, Some, refl, arith, ◌-◌}
+use Rattle.p9_manual.specs.Threads.{with_word}
+use Rattle.p9_manual.specs.State.{changed}
+use Rattle.p9_sched.specs.declared.slot.Slot.{Slot}
+use Rattle.p9_sched.specs.Stored.{Stored}
+use Rattle.p9_sched.proofs.Seen.{seen_length, seen_slot, seen_set}
+use Rattle.p9_sched.proofs.table.Table.set_word.Goals as goal
+
+pub index_mut-slot-requires : goal.index_mut-slot-requires
+index_mut-slot-requires c =
+    let n = seen_length c.self.inside c.args.self.now c.self.view_is in
+    omega (arith, c.self.inside.slots.ok.0)
+
+pub returns : goal.returns
+returns c =
+    let at = c.index_mut-slot.ensures.value in
+    let e = seen_set c.self.inside c.args.self.now (with_word c.args.word) c.args.t c.index_mut-slot.result.now (record c.index_mut-slot.result.now { word = c.args.word }) c.self.view_is c.requires (λ u. rw (← at) refl) in
+    rw e (ap (λ (w : Stored). record { threads = changed (with_word c.args.word) c.args.self.now.threads (c.args.t - 1); rooms = w.rooms }) c.self.view_is)

@@ -1,0 +1,52 @@
+-- How the table of threads keeps them: a slot for each, and the groups and names of those that have one.
+use Rattle.std.specs.Prelude.{◌≡◌, ℕ, zero, suc, ◌+◌, ◌<◌, ◌≤◌, Bool, true, false, cond, List, [], ◌∷◌, ◌++◌, Option, None, Some, unwrap_or, length, nat_eq, map}
+use Rattle.std.specs.Vec.{vec_len, vec_capacity}
+use Rattle.p9_manual.specs.declared.state.Place.{Place}
+use Rattle.p9_manual.specs.declared.state.Place.TheVariants.{Ended}
+use Rattle.p9_manual.specs.declared.state.Thread.{Thread}
+use Rattle.p9_manual.specs.Create.{fresh}
+use Rattle.p9_sched.specs.Schedule.{Rooms}
+use Rattle.p9_sched.specs.declared.slot.Slot.{Slot}
+
+-- the threads by their ids, and which rooms are there
+pub record Stored : Type 0 where
+  pub threads : List Thread
+  pub rooms : Rooms
+
+-- id is one of a list's ids, which count from 1
+pub record HasId {A : Type 0} (id : ℕ) (xs : List A) : Type 0 where
+  pub from : 1 ≤ id
+  pub to : id ≤ length xs
+
+-- the thread with this id
+abbrev pub thread_of : (ℕ → Option ℕ) → (ℕ → Option (List ℕ)) → ℕ → Slot → Thread
+thread_of groups names t slot =
+    record {
+      proc_no = slot.proc_no;
+      program = slot.program;
+      arg = slot.arg;
+      group = unwrap_or (groups t) 0;
+      name = unwrap_or (names t) [];
+      word = slot.word;
+      marked = false;
+      place = slot.place;
+    }
+
+-- the threads of these slots, whose ids count from t on
+abbrev pub threads_of : (ℕ → Option ℕ) → (ℕ → Option (List ℕ)) → ℕ → List Slot → List Thread
+threads_of groups names t [] = []
+threads_of groups names t (slot ∷ slots) = thread_of groups names t slot ∷ threads_of groups names (suc t) slots
+
+-- what a slot keeps of a thread
+abbrev pub slot_of : Thread → Slot
+slot_of thread =
+    record { proc_no = thread.proc_no; program = thread.program; arg = thread.arg; word = thread.word; place = thread.place }
+
+-- a slot of a thread that has ended
+abbrev pub slot_ended : Slot → Slot
+slot_ended slot = record slot { place = Ended }
+
+-- a new thread has the next id
+abbrev pub with_fresh : ℕ → ℕ → ℕ → ℕ → Stored → Stored
+with_fresh p program arg group s =
+    record s { threads = s.threads ++ fresh p program arg group ∷ []; rooms = record s.rooms { thread = false } }
