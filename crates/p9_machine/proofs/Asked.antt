@@ -15,13 +15,8 @@ use Rattle.p9_manual.specs.Threads.{thread_call, asked, in_group, with_word, wit
 use Rattle.p9_sched.specs.Schedule.{Schedule, IsMade, proc_of, group_of, word_of}
 use Rattle.p9_sched.specs.Turns.{place_of}
 use Rattle.p9_sched.specs.declared.turns.Place.TheVariants as place
-use Rattle.p9_machine.specs.declared.board.Board.{Board}
-use Rattle.p9_machine.specs.Board.{Gives, IsRunning}
+use Rattle.p9_machine.specs.Board.{IsRunning}
 use Rattle.p9_machine.specs.Copies.{IsForThread, IsNameOf}
-
--- outcomes that are the same are given alike
-pub gives_by : (old : Board) (line : List ℕ) (o p : Outcome) (r : Reply) (new : Board) → o ≡ p → Gives old line p r new → Gives old line o r new
-gives_by old line o p r new e h = subst (λ (q : Outcome). Gives old line q r new) (sym e) h
 
 -- a thread that runs is there
 pub caller_of : (o : Option Thread) → place_of o ≡ place.Running → (caller : Thread) × (o ≡ Some caller)

@@ -25,7 +25,7 @@ use Rattle.p9_machine.specs.declared.board.Board.{Board}
 use Rattle.p9_machine.specs.declared.reserve.Reserved.{Reserved}
 use Rattle.p9_machine.specs.declared.machine.Machine.TheInside.{Inside}
 use Rattle.p9_sched.specs.Schedule.{Schedule}
-use Rattle.p9_machine.specs.Board.{state_of, calls_of, settled, with_answer, Stands, AreParts, IsUsable, Follows}
+use Rattle.p9_machine.specs.Board.{state_of, calls_of, settled, with_answer, Stands, AreParts, IsUsable, Gives, Follows}
 use Rattle.p9_machine.specs.Calls.{begun_call, begun_count, call_length_of}
 use Rattle.p9_machine.specs.Copies.{IsForEvent, IsTold}
 use Rattle.p9_machine.specs.Ready.{HasBuffersFor}
@@ -45,6 +45,10 @@ stands_on S T H K seat event r old new same stands legal counted re te ke =
 -- outcomes that are the same are followed alike
 pub follows_by : (old new : Board) (line : List ℕ) (seat : Seat) (r : Reply) (o p : Outcome) → o ≡ p → Follows old line seat p r new → Follows old line seat o r new
 follows_by old new line seat r o p e h = subst (λ (q : Outcome). Follows old line seat q r new) (sym e) h
+
+-- and give the same
+pub gives_by : (old new : Board) (line : List ℕ) (r : Reply) (o p : Outcome) → o ≡ p → Gives old line p r new → Gives old line o r new
+gives_by old new line r o p e h = subst (λ (q : Outcome). Gives old line q r new) (sym e) h
 
 if_false : {A : Type 0} (b : Bool) (x y : A) → b ≡ false → (if b then x else y) ≡ y
 if_false true x y e = cc

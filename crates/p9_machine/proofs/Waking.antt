@@ -30,10 +30,10 @@ use Rattle.p9_sched.specs.Schedule.{Schedule, IsPlace, proc_of, readied}
 use Rattle.p9_sched.specs.Turns.{place_of}
 use Rattle.p9_sched.specs.declared.turns.Place.TheVariants as place
 use Rattle.p9_machine.specs.declared.board.Board.{Board}
-use Rattle.p9_machine.specs.Board.{AreParts, IsBoard, Gives, with_answer}
+use Rattle.p9_machine.specs.Board.{AreParts, IsBoard, with_answer}
 use Rattle.p9_machine.specs.Desks.{ioprocs_of}
 use Rattle.p9_machine.specs.Waits.{AreWaiting, IsWaiting, with_caller}
-use Rattle.p9_machine.proofs.Parts.{CasesEq, Same, Other, cases_eq, eq_same, changed_length, parts_readied, by_id_other}
+use Rattle.p9_machine.proofs.Parts.{CasesEq, Same, Other, cases_eq, eq_same, changed_length, parts_ready, by_id_other}
 
 some_is : {A : Type 0} (x y : A) → Some x ≡ Some y → x ≡ y
 some_is x y e = cc
@@ -118,18 +118,6 @@ woken_wait threads w ws pl t a (Other ne) =
 pub others_wait : (threads : List Thread) (w : Waiter) (ws : List Waiter) (pl : Stand) → AreWaiting threads (w ∷ ws) → AreWaiting (placed w.tid pl threads) ws
 others_wait threads w ws pl a = record { wait = λ t. woken_wait threads w ws pl t a (cases_eq w.tid t) }
 
--- the parts once a thread is ready
-parts_made : (t : ℕ) (a : Answer) (s : Schedule) (line : List ℕ) (o : Option Thread) → by_id s.threads t ≡ o → IsPlace (proc_of o) s → AreParts s line → AreParts (readied t a s) (line ++ t ∷ [])
-parts_made t a s line None e p h = let from = p.from in absurd (omega arith)
-parts_made t a s line (Some thread) e p h = parts_readied t a s thread line e p.from p.to h
-
-pub parts_woken : (t : ℕ) (a : Answer) (s : Schedule) (line : List ℕ) → IsPlace (proc_of (by_id s.threads t)) s → AreParts s line → AreParts (readied t a s) (line ++ t ∷ [])
-parts_woken t a s line p h = parts_made t a s line (by_id s.threads t) refl p h
-
--- outcomes that are the same give the same
-pub gives_by : (old new : Board) (line : List ℕ) (r : Reply) (o p : Outcome) → o ≡ p → Gives old line p r new → Gives old line o r new
-gives_by old new line r o p e h = subst (λ (q : Outcome). Gives old line q r new) (sym e) h
-
 if_false : {A : Type 0} (b : Bool) (x y : A) → b ≡ false → (if b then x else y) ≡ y
 if_false true x y e = cc
 if_false false x y e = refl
@@ -172,7 +160,7 @@ wakes c waits before s n i x d t on e p k =
       waiting = subst (λ (ts : List Thread). AreWaiting ts (drop (i + 1) waits)) (sym th) (others_wait s.threads x (drop (i + 1) waits) (stand.Ready ClosedAnswer) w);
       threads = ap (λ (ts : List Thread). all_closed (filter (waits_on c) (drop (i + 1) waits)) ts) th ∙ (ap (λ (ws : List Waiter). all_closed ws s.threads) (sym rest) ∙ k.threads);
       parts = λ line a.
-          let m : AreParts (readied x.tid ClosedAnswer s) ((line ++ map (λ w. w.tid) (filter (waits_on c) (take i waits))) ++ x.tid ∷ []) = parts_woken x.tid ClosedAnswer s _ p (k.parts line a) in
+          let m : AreParts (readied x.tid ClosedAnswer s) ((line ++ map (λ w. w.tid) (filter (waits_on c) (take i waits))) ++ x.tid ∷ []) = parts_ready x.tid ClosedAnswer s (readied x.tid ClosedAnswer s) _ refl p (k.parts line a) in
           let l : (line ++ map (λ w. w.tid) (filter (waits_on c) (take i waits))) ++ x.tid ∷ [] ≡ line ++ map (λ w. w.tid) (filter (waits_on c) (take (i + 1) waits)) = append_assoc line _ _ ∙ ap (λ (xs : List ℕ). line ++ xs) (sym tids) in
           subst (λ (m : Schedule). AreParts m (line ++ map (λ w. w.tid) (filter (waits_on c) (take (i + 1) waits)))) (sym e) (subst (AreParts (readied x.tid ClosedAnswer s)) l m);
       words = ap (λ (m : Schedule). m.words) e ∙ k.words;

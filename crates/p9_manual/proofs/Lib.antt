@@ -15,3 +15,4 @@ pub mod Sound
 pub mod EndLaws
 pub mod StuckLaws
 pub mod Lined
+pub mod Refusals

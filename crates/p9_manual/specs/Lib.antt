@@ -17,6 +17,7 @@ pub mod Programs
 pub mod FilesInHistory
 pub mod Examples
 pub mod ThreadExamples
+pub mod Refusals
 pub mod RunReplies
 pub mod IoReplies
 pub mod StuckReplies

@@ -2,6 +2,7 @@
 
 pub mod ending;
 pub mod examples;
+pub mod refusals;
 pub mod running;
 pub mod soundness;
 pub mod stuck;

@@ -1,7 +1,7 @@
 -- What a new room of one line does to the rooms of all.
-use Rattle.std.proofs.Common.{◌≡◌, ◌≢◌, ℕ, ◌+◌, ◌<◌, ◌≤◌, ◌⊎◌, inl, inr, List, length, get_or, set, Option, Some, IfSome, sym, ap, subst, ◌∙◌, arith}
+use Rattle.std.proofs.Common.{◌≡◌, ◌≢◌, ℕ, ◌+◌, ◌<◌, ◌≤◌, ◌⊎◌, inl, inr, List, length, get_or, set, IfSome, arith}
 use Rattle.std.specs.Prelude.{slice_get}
-use Rattle.p9_sched.specs.Lined.{Lined, bare, room_at, HasSpare}
+use Rattle.p9_sched.specs.Lined.{Lined, room_at, HasSpare}
 use Rattle.p9_sched.proofs.Lists.{at_or_not, slice_get-within, slice_get-set_same, slice_get-set_other}
 
 room_at_set : (xs : List Lined) (i k : ℕ) (y d : Lined) → i < length xs → (get_or xs i d).room ≤ y.room → (k ≡ i) ⊎ (k ≢ i) → room_at (slice_get xs k) ≤ room_at (slice_get (set xs i y) k)

@@ -1,5 +1,5 @@
 -- What callers see after a move.
-use Rattle.std.proofs.Common.{◌≡◌, ◌≢◌, ◌⊎◌, ℕ, zero, suc, ◌+◌, ◌-◌, ◌≤◌, false, List, [], ◌∷◌, ◌++◌, length, map, replicate, arith, Option, Some, None, Result, Ok, Err, OnOk, OnErr, true, refl, sym, ap, subst, ◌∙◌}
+use Rattle.std.proofs.Common.{◌≡◌, ◌≢◌, ◌⊎◌, ℕ, zero, suc, ◌+◌, ◌-◌, false, List, [], ◌∷◌, ◌++◌, length, map, replicate, arith, Option, Some, None, Result, Ok, Err, OnOk, OnErr, true, refl, sym, ap, subst, ◌∙◌}
 use Rattle.std.proofs.lemmas.List.{length-map}
 use Rattle.std.specs.Prelude.{option_map, slice_get}
 use Rattle.p9_word.specs.declared.answer.Answer.{Answer}

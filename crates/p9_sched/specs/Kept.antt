@@ -1,5 +1,5 @@
 -- What the fields of a schedule keep.
-use Rattle.std.specs.Prelude.{◌≡◌, ℕ, ◌==◌, ◌+◌, ◌≤◌, Bool, true, false, List, Option, None, Some, IfSome, length, map}
+use Rattle.std.specs.Prelude.{◌≡◌, ℕ, ◌==◌, ◌+◌, ◌≤◌, Bool, false, List, Option, None, Some, IfSome, length, map}
 use Rattle.p9_manual.specs.declared.state.Thread.{Thread}
 use Rattle.p9_manual.specs.Places.{lives_in, runs_there}
 use Rattle.p9_manual.specs.Standing.{times}

@@ -1,5 +1,5 @@
 -- What is kept of a proc place, and how the moves of its threads change it.
-use Rattle.std.specs.Prelude.{ℕ, ◌≤◌, ◌+◌, ◌-◌, ◌==◌, Bool, List, [], ◌∷◌, Option, None, Some, is_some, length, nat_lt, drop, if◌then◌else◌}
+use Rattle.std.specs.Prelude.{ℕ, ◌≤◌, ◌+◌, ◌-◌, ◌==◌, Bool, List, [], Option, None, Some, is_some, length, nat_lt, drop, if◌then◌else◌}
 use Rattle.p9_sched.specs.Schedule.{with_last, without}
 
 -- the word of a proc, the line of its ready threads, how many of its threads live, the one that runs, and how many

@@ -1,7 +1,5 @@
 -- How the table of threads keeps them: a slot for each, and the groups and names of those that have one.
-use Rattle.std.specs.Prelude.{◌≡◌, ℕ, zero, suc, ◌+◌, ◌<◌, ◌≤◌, Bool, true, false, cond, List, [], ◌∷◌, ◌++◌, Option, None, Some, unwrap_or, length, nat_eq, map}
-use Rattle.std.specs.Vec.{vec_len, vec_capacity}
-use Rattle.p9_manual.specs.declared.state.Place.{Place}
+use Rattle.std.specs.Prelude.{ℕ, suc, ◌≤◌, false, List, [], ◌∷◌, ◌++◌, Option, unwrap_or, length}
 use Rattle.p9_manual.specs.declared.state.Place.TheVariants.{Ended}
 use Rattle.p9_manual.specs.declared.state.Thread.{Thread}
 use Rattle.p9_manual.specs.Create.{fresh}

@@ -163,6 +163,20 @@ fn keeps(rt: &impl Abort, s: &mut Sched, name: Msg) -> Result<(), NoMemory> {
     Ok(())
 }
 
+/// One thread in the third of three proc places.
+fn tells(rt: &impl Abort, s: &mut Sched) -> Result<(), NoMemory> {
+    assert!(rt; whether(s) == (false, false, false));
+    make(s, 3, 0)?;
+    assert!(rt; whether(s) == (true, false, true));
+    assert!(rt; begins(s, 3, 1));
+    assert!(rt; whether(s) == (true, true, false));
+    wait(s, 1);
+    assert!(rt; whether(s) == (true, false, false));
+    end(s, 1);
+    assert!(rt; whether(s) == (false, false, false));
+    Ok(())
+}
+
 #[test]
 fn yields_in_order(rt: HostRuntime) -> Result<(), Fail> {
     let mut sched = Sched::new(rt.alloc(), 1, 1)?;
@@ -183,5 +197,12 @@ fn keeps_values(rt: HostRuntime) -> Result<(), Fail> {
     let name = Msg::from_slice(alloc, b"first")?;
     let mut sched = Sched::new(alloc, 2, 2)?;
     keeps(&rt, &mut sched, name)?;
+    Ok(())
+}
+
+#[test]
+fn tells_of_all_procs(rt: HostRuntime) -> Result<(), Fail> {
+    let mut sched = Sched::new(rt.alloc(), 3, 3)?;
+    tells(&rt, &mut sched)?;
     Ok(())
 }

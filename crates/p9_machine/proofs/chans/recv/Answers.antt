@@ -7,7 +7,8 @@ use Rattle.p9_manual.specs.Chans.{sends_on}
 use Rattle.p9_machine.specs.Board.{state_of}
 use Rattle.p9_machine.specs.Calls.{begun_count}
 use Rattle.p9_machine.specs.Desks.{ioprocs_of, rooms_of}
-use Rattle.p9_machine.proofs.Waking.{partner_waits, other_runs, gives_by, recv_waits}
+use Rattle.p9_machine.proofs.Keeps.{gives_by}
+use Rattle.p9_machine.proofs.Waking.{partner_waits, other_runs, recv_waits}
 use Rattle.p9_machine.proofs.chans.recv.Goals as goal
 
 pub ready-requires-in-Some-pick_sender : goal.ready-requires-in-Some-pick_sender

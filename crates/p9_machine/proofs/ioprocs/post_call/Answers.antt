@@ -11,7 +11,8 @@ use Rattle.p9_manual.specs.State.{by_id, changed, waiting}
 use Rattle.p9_machine.specs.Calls.{begun_count}
 use Rattle.p9_machine.specs.Desks.{ioprocs_of, rooms_of}
 use Rattle.p9_machine.specs.Board.{state_of}
-use Rattle.p9_machine.proofs.Waking.{gives_by, post_waits}
+use Rattle.p9_machine.proofs.Keeps.{gives_by}
+use Rattle.p9_machine.proofs.Waking.{post_waits}
 use Rattle.p9_machine.proofs.ioprocs.post_call.Goals as goal
 
 pub returns-else-message_len-gt4294967295 : goal.returns-else-message_len-gt4294967295

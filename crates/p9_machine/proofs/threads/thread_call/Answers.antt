@@ -1,6 +1,7 @@
 use Rattle.std.proofs.Common.{◌∙◌}
 use Rattle.p9_machine.specs.Board.{state_of}
-use Rattle.p9_machine.proofs.Asked.{gives_by, caller_of, made_running, asks_create, asks_proc, asks_exit, asks_exit_all, asks_yield, asks_id, asks_pid, asks_group, asks_join, asks_set_name, asks_name, asks_word, asks_set_word, asks_proc_word, asks_set_proc_word}
+use Rattle.p9_machine.proofs.Keeps.{gives_by}
+use Rattle.p9_machine.proofs.Asked.{caller_of, made_running, asks_create, asks_proc, asks_exit, asks_exit_all, asks_yield, asks_id, asks_pid, asks_group, asks_join, asks_set_name, asks_name, asks_word, asks_set_word, asks_proc_word, asks_set_proc_word}
 use Rattle.p9_machine.proofs.threads.thread_call.Goals as goal
 
 pub proc_of-p-requires : goal.proc_of-p-requires

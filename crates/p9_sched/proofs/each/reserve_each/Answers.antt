@@ -1,6 +1,5 @@
-use Rattle.std.proofs.Common.{◌≤◌, ◌∙◌, get_or, arith, ap}
-use Rattle.std.specs.Prelude.{slice_get}
-use Rattle.p9_sched.specs.Lined.{bare, room_at, Lined}
+use Rattle.std.proofs.Common.{◌∙◌, arith, ap}
+use Rattle.p9_sched.specs.Lined.{bare, Lined}
 use Rattle.p9_sched.proofs.Lists.{map_set_same}
 use Rattle.p9_sched.proofs.Rooms.{more_room, more_spare}
 use Rattle.p9_sched.proofs.each.reserve_each.Goals as goal

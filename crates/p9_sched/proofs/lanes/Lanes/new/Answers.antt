@@ -1,4 +1,4 @@
-use Rattle.std.proofs.Common.{◌≡◌, ◌++◌, ◌∷◌, [], length, map, replicate, arith, ap}
+use Rattle.std.proofs.Common.{length, arith, ap}
 use Rattle.std.proofs.lemmas.List.{length-map, length-replicate}
 use Rattle.p9_sched.specs.Lined.{bare, no_lane}
 use Rattle.p9_sched.proofs.Lists.{push_map}

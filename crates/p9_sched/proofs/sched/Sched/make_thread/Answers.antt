@@ -1,4 +1,4 @@
-use Rattle.std.proofs.Common.{◌≡◌, ◌∙◌, ◌+◌, ◌<◌, length, true, refl, ap, subst, sym, arith}
+use Rattle.std.proofs.Common.{◌≡◌, ◌∙◌, ◌+◌, ◌<◌, length, true, refl, ap, subst, arith}
 use Rattle.p9_manual.specs.Create.{fresh}
 use Rattle.p9_sched.specs.Kept.{IsSound}
 use Rattle.p9_sched.specs.Schedule.{Schedule}

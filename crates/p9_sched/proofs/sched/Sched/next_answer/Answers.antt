@@ -1,4 +1,4 @@
-use Rattle.std.proofs.Common.{◌≡◌, ◌∙◌, sym, ap}
+use Rattle.std.proofs.Common.{◌∙◌, sym, ap}
 use Rattle.p9_manual.specs.State.{by_id}
 use Rattle.p9_sched.specs.declared.slot.Slot.{Slot}
 use Rattle.p9_sched.specs.Turns.{answer_at}

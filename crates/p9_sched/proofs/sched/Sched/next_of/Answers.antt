@@ -3,7 +3,7 @@ use Rattle.std.specs.List.{list_any}
 use Rattle.p9_manual.specs.declared.state.Place.TheVariants.{Running}
 use Rattle.p9_manual.specs.Places.{runs_in}
 use Rattle.p9_manual.specs.State.{by_id, at_place, placed}
-use Rattle.p9_sched.specs.Lined.{Lined, line_at, started}
+use Rattle.p9_sched.specs.Lined.{line_at, started}
 use Rattle.p9_sched.specs.Schedule.{Schedule, line_of}
 use Rattle.p9_sched.specs.Stored.{Stored}
 use Rattle.p9_sched.specs.Turns.{ready_at}

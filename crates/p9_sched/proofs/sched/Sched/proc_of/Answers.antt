@@ -1,4 +1,4 @@
-use Rattle.std.proofs.Common.{subst, ap, sym, ◌∙◌}
+use Rattle.std.proofs.Common.{subst}
 use Rattle.p9_manual.specs.State.{by_id}
 use Rattle.p9_sched.specs.Schedule.{IsPlace}
 use Rattle.p9_sched.proofs.Lists.{item_at}

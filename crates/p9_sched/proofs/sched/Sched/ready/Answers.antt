@@ -1,8 +1,8 @@
-use Rattle.std.proofs.Common.{sym, subst, refl}
+use Rattle.std.proofs.Common.{refl}
 use Rattle.p9_manual.specs.declared.state.Place.TheVariants.{Ready}
 use Rattle.p9_manual.specs.State.{by_id, placed}
 use Rattle.p9_sched.specs.Lined.{queued}
-use Rattle.p9_sched.specs.Schedule.{Schedule, with_last}
+use Rattle.p9_sched.specs.Schedule.{with_last}
 use Rattle.p9_sched.proofs.Keeping.{queued_lane}
 use Rattle.p9_sched.proofs.Lists.{id_of}
 use Rattle.p9_sched.proofs.Sound.{moved, proc_is, room_for}

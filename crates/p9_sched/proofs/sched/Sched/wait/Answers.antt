@@ -1,8 +1,7 @@
-use Rattle.std.proofs.Common.{sym, subst, refl, inl}
+use Rattle.std.proofs.Common.{refl, inl}
 use Rattle.p9_manual.specs.declared.state.Place.TheVariants.{Waiting}
 use Rattle.p9_manual.specs.State.{by_id, placed}
 use Rattle.p9_sched.specs.Lined.{stopped}
-use Rattle.p9_sched.specs.Schedule.{Schedule}
 use Rattle.p9_sched.proofs.Keeping.{stopped_lane}
 use Rattle.p9_sched.proofs.Lists.{id_of}
 use Rattle.p9_sched.proofs.Sound.{moved, proc_is}

@@ -1,8 +1,8 @@
-use Rattle.std.proofs.Common.{◌≡◌, ◌∙◌, map, ap, arith, nat_eq}
+use Rattle.std.proofs.Common.{◌≡◌, ◌∙◌, map, ap, arith}
 use Rattle.std.specs.Vec.{with_items}
 use Rattle.std.proofs.lemmas.List.{with_items_is}
 use Rattle.p9_manual.specs.Ends.{at_end}
-use Rattle.p9_sched.specs.Stored.{Stored, slot_ended, threads_of}
+use Rattle.p9_sched.specs.Stored.{Stored, slot_ended}
 use Rattle.p9_sched.proofs.Seen.{groups_in, names_in}
 use Rattle.p9_sched.proofs.Threads.{threads_ended}
 use Rattle.p9_sched.proofs.table.Table.end_all.Goals as goal

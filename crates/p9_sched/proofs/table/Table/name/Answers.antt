@@ -1,4 +1,4 @@
-use Rattle.std.proofs.Common.{◌∙◌, [], sym, ap, refl, unwrap_or}
+use Rattle.std.proofs.Common.{◌∙◌, [], sym, ap, unwrap_or}
 use Rattle.p9_sched.proofs.Seen.{seen_name}
 use Rattle.p9_sched.proofs.table.Table.name.Goals as goal
 

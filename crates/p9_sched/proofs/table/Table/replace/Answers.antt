@@ -1,7 +1,5 @@
-use Rattle.std.proofs.Common.{◌∙◌, sym, ap, Some, refl, arith, ◌-◌}
-use Rattle.p9_manual.specs.declared.state.Thread.{Thread}
+use Rattle.std.proofs.Common.{sym, ap, Some, refl, arith}
 use Rattle.p9_manual.specs.State.{at_place, placed}
-use Rattle.p9_sched.specs.declared.slot.Slot.{Slot}
 use Rattle.p9_sched.specs.Stored.{Stored}
 use Rattle.p9_sched.proofs.Seen.{seen_length, seen_slot, seen_set}
 use Rattle.p9_sched.proofs.table.Table.replace.Goals as goal

@@ -1,4 +1,4 @@
-use Rattle.std.proofs.Common.{◌≡◌, ◌≢◌, ◌-◌, true, false, nat_eq, ap, ◌∙◌, arith}
+use Rattle.std.proofs.Common.{◌≢◌, ◌-◌, false, nat_eq, ap, ◌∙◌, arith}
 use Rattle.indexmap.specs.IndexMap.{get}
 use Rattle.p9_manual.specs.State.{changed}
 use Rattle.p9_manual.specs.Threads.{with_name}

@@ -1,9 +1,8 @@
-use Rattle.std.proofs.Common.{◌∙◌, sym, ap, Some, refl, arith, ◌-◌}
+use Rattle.std.proofs.Common.{ap, refl, arith, ◌-◌}
 use Rattle.p9_manual.specs.Threads.{with_word}
 use Rattle.p9_manual.specs.State.{changed}
-use Rattle.p9_sched.specs.declared.slot.Slot.{Slot}
 use Rattle.p9_sched.specs.Stored.{Stored}
-use Rattle.p9_sched.proofs.Seen.{seen_length, seen_slot, seen_set}
+use Rattle.p9_sched.proofs.Seen.{seen_length, seen_set}
 use Rattle.p9_sched.proofs.table.Table.set_word.Goals as goal
 
 pub index_mut-slot-requires : goal.index_mut-slot-requires

@@ -1,0 +1,225 @@
+-- A request that is refused leaves the state, but for the number of entries.
+use Rattle.std.proofs.Common.{ℕ, ◌≡◌, ◌+◌, Bool, true, false, not, cond, ◌||◌, List, Option, Some, None, refl}
+use Rattle.std.specs.Prelude.{option_map, nat_lt}
+use Rattle.std.specs.List.{list_any}
+use Rattle.p9_word.specs.declared.trail.Seat.{Seat}
+use Rattle.p9_word.specs.declared.trail.Seat.TheVariants.{Proc, Io as IoSeat}
+use Rattle.p9_word.specs.declared.trail.Event.{Event}
+use Rattle.p9_word.specs.declared.trail.Event.TheVariants.{Call, Next, IoTake, IoDid}
+use Rattle.p9_word.specs.declared.answer.Answer.{Answer}
+use Rattle.p9_word.specs.declared.answer.Answer.TheVariants as answer
+use Rattle.p9_word.specs.declared.trail.Reply.{Reply}
+use Rattle.p9_word.specs.declared.trail.Reply.TheVariants as reply
+use Rattle.p9_word.specs.declared.request.Request.{Request}
+use Rattle.p9_word.specs.declared.request.Request.TheVariants.{Thread as ThreadRequest, Chan as ChanRequest, Io as IoRequest}
+use Rattle.p9_word.specs.declared.request.ThreadReq.{ThreadReq}
+use Rattle.p9_word.specs.declared.request.ThreadReq.TheVariants as ask
+use Rattle.p9_word.specs.declared.request.ChanReq.{ChanReq}
+use Rattle.p9_word.specs.declared.request.ChanReq.TheVariants.{ChanClose, Send, Recv}
+use Rattle.p9_word.specs.declared.request.IoReq.{IoReq}
+use Rattle.p9_word.specs.declared.request.IoReq.TheVariants.{IoProc, IoRun, CloseIoProc}
+use Rattle.p9_word.specs.declared.io_call.IoCall.{IoCall}
+use Rattle.p9_word.specs.declared.io_call.Effect.{Effect}
+use Rattle.p9_word.specs.declared.setup.Setup.{Setup}
+use Rattle.p9_manual.specs.declared.state.Place.{Place}
+use Rattle.p9_manual.specs.declared.state.Place.TheVariants.{Running, New, Ready, Waiting, Ended}
+use Rattle.p9_manual.specs.declared.state.Thread.{Thread}
+use Rattle.p9_manual.specs.declared.state.Channel.{Channel}
+use Rattle.p9_manual.specs.declared.state.Waiter.{Waiter}
+use Rattle.p9_manual.specs.declared.state.Ioproc.{Ioproc}
+use Rattle.p9_manual.specs.declared.state.Ioproc.TheVariants as stand
+use Rattle.p9_manual.specs.State.{State, Outcome, Proc as ThreadProc, by_id, pick}
+use Rattle.p9_manual.specs.Places.{runs_there, runs_in, lives, is_of}
+use Rattle.p9_manual.specs.Create.{create_thread, create_proc, is_no_program, is_full}
+use Rattle.p9_manual.specs.Threads.{thread_call, asked, asked_by, pid_of, word_of, is_no_name}
+use Rattle.p9_manual.specs.Chans.{chan_call, send, send_to, recv, recv_from, close, is_too_long}
+use Rattle.p9_manual.specs.Ioprocs.{io_call, make, post_call, close_ioproc, take_call, did_call, fits, io_event}
+use Rattle.p9_manual.specs.Effects.{message_length}
+use Rattle.p9_manual.specs.Stuck.{is_stuck}
+use Rattle.p9_manual.specs.Next.{next_event, next_of, turn, turn_reply, started, is_place, is_over}
+use Rattle.p9_manual.specs.Step.{step, outcome, called, served, counted, makes_entry}
+use Rattle.p9_manual.specs.Refusals.{is_refusal}
+
+-- a refusal leaves this state
+abbrev Leaves : State → Outcome → Type 0
+Leaves s o = is_refusal o.reply ≡ true → o.state ≡ s
+
+if_leaves : (s : State) (b : Bool) (o p : Outcome) → Leaves s o → Leaves s p → Leaves s (cond b o p)
+if_leaves s true o p f g = f
+if_leaves s false o p f g = g
+
+send_to_leaves : (t c elsize : ℕ) (v : Option (List ℕ)) (s : State) (o : Option (Waiter × List Waiter)) → Leaves s (send_to t c elsize v s o)
+send_to_leaves t c elsize v s None = λ e. cc
+send_to_leaves t c elsize v s (Some found) = λ e. cc
+
+send_leaves : (t c : ℕ) (v : Option (List ℕ)) (s : State) (o : Option Channel) → Leaves s (send t c v s o)
+send_leaves t c v s None = λ e. refl
+send_leaves t c v s (Some chan) =
+    if_leaves s (is_too_long chan.elsize v) _ _ (λ e. refl) (if_leaves s chan.closed _ _ (λ e. cc) (send_to_leaves t c chan.elsize v s _))
+
+recv_from_leaves : (t : ℕ) (keep : Bool) (c elsize : ℕ) (s : State) (o : Option (Waiter × List Waiter)) → Leaves s (recv_from t keep c elsize s o)
+recv_from_leaves t keep c elsize s None = λ e. cc
+recv_from_leaves t keep c elsize s (Some found) = λ e. cc
+
+recv_leaves : (t : ℕ) (keep : Bool) (c : ℕ) (s : State) (o : Option Channel) → Leaves s (recv t keep c s o)
+recv_leaves t keep c s None = λ e. refl
+recv_leaves t keep c s (Some chan) = if_leaves s chan.closed _ _ (λ e. cc) (recv_from_leaves t keep c chan.elsize s _)
+
+close_leaves : (c : ℕ) (s : State) (o : Option Channel) → Leaves s (close c s o)
+close_leaves c s None = λ e. refl
+close_leaves c s (Some chan) = if_leaves s chan.closed _ _ (λ e. cc) (λ e. cc)
+
+chan_leaves : (S : Setup) (t : ℕ) (r : ChanReq) (s : State) → Leaves s (chan_call S t r s)
+unfolding chan_call
+chan_leaves S t (ChanClose c) s = close_leaves c s _
+chan_leaves S t (Send c v) s = send_leaves t c v s _
+chan_leaves S t (Recv keep c) s = recv_leaves t keep c s _
+
+create_leaves : (S : Setup) (program arg : ℕ) (s : State) (caller : Thread) → Leaves s (create_thread S program arg s caller)
+create_leaves S program arg s caller = if_leaves s (is_no_program S program) _ _ (λ e. refl) (if_leaves s (is_full s) _ _ (λ e. refl) (λ e. cc))
+
+create_proc_leaves : (S : Setup) (t program arg : ℕ) (s : State) (caller : Thread) → Leaves s (create_proc S t program arg s caller)
+create_proc_leaves S t program arg s caller =
+    if_leaves s (is_no_program S program) _ _ (λ e. refl) (if_leaves s (is_full s || not (nat_lt s.opened S.places)) _ _ (λ e. refl) (λ e. cc))
+
+pid_leaves : (s : State) (o : Option Thread) → Leaves s (pid_of s o)
+pid_leaves s None = λ e. refl
+pid_leaves s (Some thread) = λ e. cc
+
+word_leaves : (s : State) (o : Option ThreadProc) → Leaves s (word_of s o)
+word_leaves s None = λ e. refl
+word_leaves s (Some proc) = λ e. cc
+
+asked_leaves : (S : Setup) (t : ℕ) (r : ThreadReq) (s : State) (caller : Thread) → Leaves s (asked S t r s caller)
+unfolding asked
+asked_leaves S t (ask.ThreadCreate program arg) s caller = create_leaves S program arg s caller
+asked_leaves S t (ask.ProcCreate program arg) s caller = create_proc_leaves S t program arg s caller
+asked_leaves S t (ask.ThreadExits text) s caller = λ e. cc
+asked_leaves S t (ask.ThreadExitsAll text) s caller = λ e. cc
+asked_leaves S t ask.Yield s caller = λ e. cc
+asked_leaves S t ask.ThreadId s caller = λ e. cc
+asked_leaves S t (ask.ThreadPid u) s caller = pid_leaves s (by_id s.threads u)
+asked_leaves S t ask.ThreadGetGrp s caller = λ e. cc
+asked_leaves S t (ask.ThreadSetGrp group) s caller = λ e. cc
+asked_leaves S t (ask.ThreadSetName name) s caller = if_leaves s (is_no_name name) _ _ (λ e. refl) (λ e. cc)
+asked_leaves S t ask.ThreadGetName s caller = λ e. cc
+asked_leaves S t ask.ThreadWord s caller = λ e. cc
+asked_leaves S t (ask.ThreadSetWord word) s caller = λ e. cc
+asked_leaves S t ask.ProcWord s caller = word_leaves s (by_id s.procs caller.proc_no)
+asked_leaves S t (ask.ProcSetWord word) s caller = λ e. cc
+
+asked_by_leaves : (S : Setup) (t : ℕ) (r : ThreadReq) (s : State) (o : Option Thread) → Leaves s (asked_by S t r s o)
+asked_by_leaves S t r s None = λ e. refl
+asked_by_leaves S t r s (Some caller) = asked_leaves S t r s caller
+
+thread_leaves : (S : Setup) (t : ℕ) (r : ThreadReq) (s : State) → Leaves s (thread_call S t r s)
+unfolding thread_call
+thread_leaves S t r s = asked_by_leaves S t r s (by_id s.threads t)
+
+make_leaves : (k : ℕ) (s : State) (o : Option Ioproc) → Leaves s (make k s o)
+make_leaves k s None = λ e. refl
+make_leaves k s (Some stand.Unmade) = λ e. cc
+make_leaves k s (Some stand.Idle) = λ e. refl
+make_leaves k s (Some (stand.Posted t call)) = λ e. refl
+make_leaves k s (Some (stand.Begun t call)) = λ e. refl
+make_leaves k s (Some stand.Closed) = λ e. refl
+
+post_leaves : (t k : ℕ) (call : IoCall) (s : State) (o : Option Ioproc) → Leaves s (post_call t k call s o)
+post_leaves t k call s None = λ e. refl
+post_leaves t k call s (Some stand.Unmade) = λ e. refl
+post_leaves t k call s (Some stand.Idle) = if_leaves s (nat_lt 4294967295 (message_length call)) _ _ (λ e. refl) (λ e. cc)
+post_leaves t k call s (Some (stand.Posted u other)) = λ e. refl
+post_leaves t k call s (Some (stand.Begun u other)) = λ e. refl
+post_leaves t k call s (Some stand.Closed) = λ e. refl
+
+close_ioproc_leaves : (k : ℕ) (s : State) (o : Option Ioproc) → Leaves s (close_ioproc k s o)
+close_ioproc_leaves k s None = λ e. refl
+close_ioproc_leaves k s (Some stand.Unmade) = λ e. refl
+close_ioproc_leaves k s (Some stand.Idle) = λ e. cc
+close_ioproc_leaves k s (Some (stand.Posted t call)) = λ e. refl
+close_ioproc_leaves k s (Some (stand.Begun t call)) = λ e. refl
+close_ioproc_leaves k s (Some stand.Closed) = λ e. refl
+
+io_leaves : (S : Setup) (t : ℕ) (r : IoReq) (s : State) → Leaves s (io_call S t r s)
+unfolding io_call
+io_leaves S t (IoProc k) s = make_leaves k s _
+io_leaves S t (IoRun k call) s = post_leaves t k call s _
+io_leaves S t (CloseIoProc k) s = close_ioproc_leaves k s _
+
+served_leaves : (S : Setup) (t : ℕ) (r : Request) (s : State) → Leaves s (served S t r s)
+unfolding served
+served_leaves S t (ThreadRequest r) s = thread_leaves S t r s
+served_leaves S t (ChanRequest r) s = chan_leaves S t r s
+served_leaves S t (IoRequest r) s = io_leaves S t r s
+
+called_leaves : (S : Setup) (p t : ℕ) (r : Request) (s : State) → Leaves s (called S p t r s)
+unfolding called
+called_leaves S p t r s = if_leaves s (runs_there p (by_id s.threads t)) _ _ (served_leaves S t r s) (λ e. refl)
+
+-- only a request is refused
+place_leaves : (t program arg : ℕ) (pl : Place) (s : State) (n : State) → is_refusal (turn_reply t (program, arg, pl)) ≡ true → n ≡ s
+place_leaves t program arg New s n e = cc
+place_leaves t program arg (Ready a) s n e = cc
+place_leaves t program arg Running s n e = cc
+place_leaves t program arg Waiting s n e = cc
+place_leaves t program arg Ended s n e = cc
+
+turn_leaves : (t : ℕ) (line : List ℕ) (s : State) (o : Option Thread) → Leaves s (turn t (record s { line = line }) (option_map started o))
+turn_leaves t line s None = λ e. cc
+turn_leaves t line s (Some thread) = λ e. place_leaves t thread.program thread.arg thread.place s _ e
+
+next_of_leaves : (s : State) (o : Option (ℕ × List ℕ)) → Leaves s (next_of s o)
+next_of_leaves s None = if_leaves s (is_stuck s) _ _ (λ e. cc) (λ e. refl)
+next_of_leaves s (Some found) = turn_leaves found.0 found.1 s (by_id s.threads found.0)
+
+next_leaves : (S : Setup) (p : ℕ) (s : State) → Leaves s (next_event S p s)
+unfolding next_event
+next_leaves S p s =
+    if_leaves s (not (is_place S p)) _ _ (λ e. refl) (if_leaves s (is_over p s) _ _ (λ e. refl) (if_leaves s (list_any (runs_in p) s.threads) _ _ (λ e. refl) (next_of_leaves s (pick (λ t. is_of p (by_id s.threads t)) s.line))))
+
+take_leaves : (k : ℕ) (s : State) (o : Option Ioproc) → Leaves s (take_call k s o)
+take_leaves k s None = λ e. refl
+take_leaves k s (Some stand.Closed) = λ e. refl
+take_leaves k s (Some (stand.Begun t call)) = if_leaves s (s.over || not (list_any lives s.threads)) _ _ (λ e. refl) (λ e. refl)
+take_leaves k s (Some (stand.Posted t call)) = if_leaves s (s.over || not (list_any lives s.threads)) _ _ (λ e. refl) (λ e. cc)
+take_leaves k s (Some stand.Unmade) = if_leaves s (s.over || not (list_any lives s.threads)) _ _ (λ e. refl) (λ e. refl)
+take_leaves k s (Some stand.Idle) = if_leaves s (s.over || not (list_any lives s.threads)) _ _ (λ e. refl) (λ e. refl)
+
+did_leaves : (k : ℕ) (effect : Effect) (s : State) (o : Option Ioproc) → Leaves s (did_call k effect s o)
+did_leaves k effect s None = λ e. refl
+did_leaves k effect s (Some stand.Unmade) = λ e. refl
+did_leaves k effect s (Some stand.Idle) = λ e. refl
+did_leaves k effect s (Some (stand.Posted t call)) = λ e. refl
+did_leaves k effect s (Some (stand.Begun t call)) = if_leaves s (fits call effect) _ _ (λ e. cc) (λ e. refl)
+did_leaves k effect s (Some stand.Closed) = λ e. refl
+
+outcome_leaves : (S : Setup) (seat : Seat) (event : Event) (s : State) → Leaves s (outcome S seat event s)
+unfolding outcome io_event
+outcome_leaves S (Proc p) (Call t r) s = called_leaves S p t r s
+outcome_leaves S (Proc p) Next s = next_leaves S p s
+outcome_leaves S (Proc p) IoTake s = λ e. refl
+outcome_leaves S (Proc p) (IoDid effect) s = λ e. refl
+outcome_leaves S (IoSeat k) IoTake s = take_leaves k s _
+outcome_leaves S (IoSeat k) (IoDid effect) s = did_leaves k effect s _
+outcome_leaves S (IoSeat k) (Call t r) s = λ e. refl
+outcome_leaves S (IoSeat k) Next s = λ e. refl
+
+refusals_make : (r : Reply) → is_refusal r ≡ true → makes_entry r ≡ true
+refusals_make (reply.Now a) e = refl
+refusals_make reply.Waits e = cc
+refusals_make reply.Ended e = cc
+refusals_make (reply.Begin t program arg) e = cc
+refusals_make (reply.Turn t a) e = cc
+refusals_make reply.Idle e = cc
+refusals_make reply.Over e = cc
+refusals_make reply.Stuck e = cc
+refusals_make reply.Stray e = cc
+refusals_make (reply.Took call) e = cc
+refusals_make reply.Noted e = cc
+
+counted_leaves : (s : State) (o : Outcome) → Leaves s o → is_refusal o.reply ≡ true → (counted s.entries o).state ≡ record s { entries = s.entries + 1 }
+counted_leaves s o leaves e = rw (refusals_make o.reply e, leaves e) refl
+
+pub refusals_leave : (S : Setup) (s : State) (seat : Seat) (event : Event) → is_refusal (step S seat event s).reply ≡ true → (step S seat event s).state ≡ record s { entries = s.entries + 1 }
+unfolding step
+refusals_leave S s seat event e = counted_leaves s (outcome S seat event s) (outcome_leaves S seat event s) e
