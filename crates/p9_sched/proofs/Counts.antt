@@ -80,3 +80,12 @@ pub times-without_other : (t v : ℕ) (line : List ℕ) → v ≢ t → times (�
 times-without_other t v [] ne = refl
 times-without_other t v (x ∷ line) ne =
     other_step (x == t) t v x (without t line) (times (λ u. u == v) line) ne refl (times-without_other t v line ne)
+
+off_step : (b : Bool) (t x : ℕ) (line : List ℕ) → (cond b 1 0) + times (λ u. u == t) line ≡ 0 → (times (λ u. u == t) line ≡ 0 → without t line ≡ line) → cond (not b) (x ∷ without t line) (without t line) ≡ x ∷ line
+off_step true t x line e h = absurd (omega arith)
+off_step false t x line e h = let none : times (λ u. u == t) line ≡ 0 = omega arith in rw (h none) refl
+
+-- a line in which t doesn't stand is the same without t
+pub without-off : (t : ℕ) (line : List ℕ) → times (λ u. u == t) line ≡ 0 → without t line ≡ line
+without-off t [] e = refl
+without-off t (x ∷ line) e = off_step (x == t) t x line e (without-off t line)

@@ -4,6 +4,7 @@ pub mod Threads
 pub mod Seen
 pub mod Counts
 pub mod Keeping
+pub mod Leaving
 pub mod Sound
 pub mod Asks
 pub mod Views

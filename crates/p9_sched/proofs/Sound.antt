@@ -1,15 +1,16 @@
 -- Threads and lanes stay sound over each move.
 use Rattle.std.proofs.Common.{◌≡◌, ◌≢◌, ℕ, zero, suc, ◌+◌, ◌-◌, ◌<◌, ◌≤◌, ◌⊎◌, inl, inr, Bool, true, false, List, [], ◌∷◌, ◌++◌, length, map, replicate, Option, Some, None, IfSome, Result, Ok, Err, OnOk, OnErr, refl, sym, ap, subst, ◌∙◌, arith}
 use Rattle.std.proofs.lemmas.List.{length-map, length_push}
-use Rattle.std.specs.Prelude.{option_map, slice_get}
+use Rattle.std.proofs.lemmas.Bool.{eq-eqb}
+use Rattle.std.specs.Prelude.{◌==◌, ◌&&◌, option_map, slice_get}
 use Rattle.p9_manual.specs.declared.state.Place.{Place}
-use Rattle.p9_manual.specs.declared.state.Place.TheVariants.{New}
+use Rattle.p9_manual.specs.declared.state.Place.TheVariants.{Running, New, Ready, Waiting, Ended}
 use Rattle.p9_manual.specs.declared.state.Thread.{Thread}
 use Rattle.p9_manual.specs.Ends.{at_end}
-use Rattle.p9_manual.specs.Places.{is_ready, is_ended, lives_in}
+use Rattle.p9_manual.specs.Places.{is_running, is_ready, is_ended, lives_in, runs_there}
 use Rattle.p9_manual.specs.State.{by_id, changed, at_place, placed}
-use Rattle.p9_sched.specs.Kept.{IsLane, IsSound}
-use Rattle.p9_sched.specs.Lined.{Lined, bare, no_lane, room_at, HasSpare, joined, cleared, worded}
+use Rattle.p9_sched.specs.Kept.{IsLane, IsSound, is_at, ready_there}
+use Rattle.p9_sched.specs.Lined.{Lined, bare, no_lane, room_at, HasSpare, RunsOffLine, joined, cleared, worded}
 use Rattle.p9_sched.specs.Schedule.{all_rooms}
 use Rattle.p9_sched.specs.Stored.{Stored, HasId}
 use Rattle.p9_sched.specs.Table.{one_if}
@@ -210,6 +211,29 @@ room_for threads ls more t p x at mine off old s =
 pub room_new : (threads : List Thread) (ls : List Lined) (p : ℕ) → IsSound threads ls true → IfSome (by_id ls p) (λ l. length l.line < l.room)
 room_new threads ls p s =
     if_imp (by_id ls p) (IsLane p threads true) (λ l. length l.line < l.room) (s.each p) (room_more p threads)
+
+ran_off : (b : Bool) (place : Place) → (b && is_running place) ≡ true → (b && is_ready place) ≡ false
+ran_off false place e = refl
+ran_off true Running e = refl
+ran_off true New e = cc
+ran_off true (Ready a) e = cc
+ran_off true Waiting e = cc
+ran_off true Ended e = cc
+
+-- a thread that runs isn't ready
+off_if : (p : ℕ) (o : Option Thread) → runs_there p o ≡ true → ready_there p o ≡ false
+off_if p None e = refl
+off_if p (Some x) e = ran_off (x.proc_no == p) x.place e
+
+lane_off : (p : ℕ) (threads : List Thread) (more : Bool) (t : ℕ) (l : Lined) → IsLane p threads more l → RunsOffLine t l
+lane_off p threads more t l k at =
+    let runs = sym (k.running t) ∙ (ap (λ o. is_at o t) at ∙ eq-eqb t t refl) in
+    k.line t ∙ ap one_if (off_if p (by_id threads t) runs)
+
+-- a thread that runs stands in no line
+pub line_off : (threads : List Thread) (ls : List Lined) (more : Bool) (t p : ℕ) → IsSound threads ls more → IfSome (by_id ls p) (RunsOffLine t)
+line_off threads ls more t p s =
+    if_imp (by_id ls p) (IsLane p threads more) (RunsOffLine t) (s.each p) (lane_off p threads more t)
 
 -- few threads live in a proc
 pub few_live : (threads : List Thread) (ls : List Lined) (more : Bool) (p : ℕ) → length threads < 65536 → IsSound threads ls more → IfSome (by_id ls p) (λ l. l.living < 65536)

@@ -1,5 +1,6 @@
 -- What is kept of a proc place, and how the moves of its threads change it.
-use Rattle.std.specs.Prelude.{ℕ, ◌≤◌, ◌+◌, ◌-◌, ◌==◌, Bool, List, [], Option, None, Some, is_some, length, nat_lt, drop, if◌then◌else◌}
+use Rattle.std.specs.Prelude.{◌≡◌, ℕ, ◌≤◌, ◌+◌, ◌-◌, ◌==◌, Bool, List, [], Option, None, Some, is_some, length, nat_lt, drop, if◌then◌else◌}
+use Rattle.p9_manual.specs.Standing.{times}
 use Rattle.p9_sched.specs.Schedule.{with_last, without}
 
 -- the word of a proc, the line of its ready threads, how many of its threads live, the one that runs, and how many
@@ -41,6 +42,10 @@ has_ready l = nat_lt 0 (length l.line)
 -- the line has room for one more living thread
 abbrev pub HasSpare : Lined → Type 0
 HasSpare l = l.living + 1 ≤ l.room
+
+-- if it is thread t that runs, t doesn't stand in the line
+abbrev pub RunsOffLine : ℕ → Lined → Type 0
+RunsOffLine t l = l.running ≡ Some t → times (λ u. u == t) l.line ≡ 0
 
 -- the place with another word
 abbrev pub worded : ℕ → Lined → Lined

@@ -1,6 +1,6 @@
 ghost use Rattle.std.specs.Prelude.{◌≡◌, ◌+◌, ◌<◌, ◌≤◌, [], None, length, slice_get, OnOk};
 ghost use Rattle.std.specs.Option.{option_copied};
-ghost use Rattle.p9_sched.specs.Lined.{bare, no_lane, joined, queued, stopped, left, cleared, started};
+ghost use Rattle.p9_sched.specs.Lined.{bare, no_lane, joined, queued, stopped, left, cleared, started, RunsOffLine};
 
 use crate::line::drop_from_line;
 use p9_word::{NoMemory, Tid};
@@ -123,12 +123,18 @@ impl Lane {
     }
 
     /// A thread has ended.
+    ///
+    /// One that ran costs the same however many threads are ready.
     pub fn leave(&mut self, t: Tid)
+        requires { RunsOffLine t self.old }
         ensures { self.new ≡ left t self.old }
     {
-        self.stop(t);
         self.living = self.living.saturating_sub(1);
-        drop_from_line(&mut self.line, t);
+        if self.running != Some(t) {
+            drop_from_line(&mut self.line, t);
+        } else {
+            self.running = None;
+        }
     }
 
     /// No thread lives any more.

@@ -1,7 +1,7 @@
 ghost use Rattle.std.specs.Prelude.{◌≡◌, ℕ, ◌-◌, ◌<◌, ◌≤◌, Some, length, map, replicate, option_map, slice_get, IfOk, IfSome, OnOk};
 ghost use Rattle.std.specs.List.{list_any};
 ghost use Rattle.p9_manual.specs.State.{by_id, changed};
-ghost use Rattle.p9_sched.specs.Lined.{bare, no_lane, room_at, has_living, has_running, has_ready, HasSpare, joined, queued, stopped, left, cleared, started, worded, line_at};
+ghost use Rattle.p9_sched.specs.Lined.{bare, no_lane, room_at, has_living, has_running, has_ready, HasSpare, RunsOffLine, joined, queued, stopped, left, cleared, started, worded, line_at};
 ghost use Rattle.p9_sched.specs.Stored.{HasId};
 
 use crate::each::{any_living, any_ready, any_running, clear_each, reserve_each};
@@ -157,7 +157,8 @@ impl Lanes {
 
     /// A thread of a proc has ended.
     pub fn leave(&mut self, p: u32, t: Tid)
-        requires { HasId p self.old }
+        requires place { HasId p self.old }
+        requires line { IfSome (by_id self.old p) (RunsOffLine t) }
         ensures { self.new ≡ changed (left t) self.old (p - 1) }
     {
         let lane = &mut self.all[p as usize - 1];

@@ -5,7 +5,7 @@ use Rattle.p9_sched.specs.Lined.{left}
 use Rattle.p9_sched.specs.Schedule.{without}
 use Rattle.p9_sched.proofs.Keeping.{left_lane}
 use Rattle.p9_sched.proofs.Lists.{id_of}
-use Rattle.p9_sched.proofs.Sound.{moved, proc_is}
+use Rattle.p9_sched.proofs.Sound.{moved, proc_is, line_off}
 use Rattle.p9_sched.proofs.Views.{alive_here, slot_proc, seen_proc, seen_place, moved_view}
 use Rattle.p9_sched.proofs.sched.Sched.end.Goals as goal
 
@@ -14,11 +14,15 @@ slot-requires c =
     let a = alive_here c.self.inside c.args.self.now c.args.t c.self.view_is c.requires in
     id_of c.self.inside.table.threads c.args.t a.thread a.there
 
-pub leave-requires : goal.leave-requires
-leave-requires c =
+pub leave-requires-clause-place : goal.leave-requires-clause-place
+leave-requires-clause-place c =
     let a = alive_here c.self.inside c.args.self.now c.args.t c.self.view_is c.requires in
     let mine = slot_proc (by_id c.self.inside.table.threads c.args.t) a.thread c.slot.result.now a.there c.slot.ensures in
     proc_is c.self.inside.table.threads c.self.inside.lanes c.self.inside.table.rooms.thread c.args.t c.slot.result.now.proc_no a.thread a.there mine c.self.invariant
+
+pub leave-requires-clause-line : goal.leave-requires-clause-line
+leave-requires-clause-line c =
+    line_off c.self.inside.table.threads c.self.inside.lanes c.self.inside.table.rooms.thread c.args.t c.slot.result.now.proc_no c.self.invariant
 
 pub invariant_of-self : goal.invariant_of-self
 invariant_of-self c =
