@@ -1,14 +1,13 @@
 -- What each request on threads comes to, where its thread runs.
-use Rattle.std.proofs.Common.{◌≡◌, ℕ, ◌-◌, ◌≤◌, zero, suc, true, List, [], ◌∷◌, length, Option, Some, None, refl, sym, subst, arith, rules, tests}
+use Rattle.std.proofs.Common.{◌≡◌, ℕ, ◌-◌, ◌≤◌, zero, suc, true, List, [], ◌∷◌, length, Option, Some, None, refl, arith, rules, tests}
 use Rattle.std.specs.Prelude.{nat_lt, slice_get}
 use Rattle.p9_word.specs.declared.answer.Answer.TheVariants.{Done, Number, Text}
-use Rattle.p9_word.specs.declared.trail.Reply.{Reply}
 use Rattle.p9_word.specs.declared.trail.Reply.TheVariants.{Ended as EndedReply}
 use Rattle.p9_word.specs.declared.request.ThreadReq.{ThreadReq}
 use Rattle.p9_word.specs.declared.request.ThreadReq.TheVariants as ask
 use Rattle.p9_word.specs.declared.setup.Setup.{Setup}
 use Rattle.p9_manual.specs.declared.state.Thread.{Thread}
-use Rattle.p9_manual.specs.State.{State, Outcome, by_id, now, done}
+use Rattle.p9_manual.specs.State.{State, by_id, now, done}
 use Rattle.p9_manual.specs.Create.{fresh, create_thread, create_proc}
 use Rattle.p9_manual.specs.Ends.{ended, all_ended}
 use Rattle.p9_manual.specs.Threads.{thread_call, asked, in_group, with_word, with_changed, set_name, pid_of, word_of as proc_word_of, set_proc_word}

@@ -1,23 +1,26 @@
 -- How the threads at the start are made.
-use Rattle.std.proofs.Common.{◌≡◌, ◌≢◌, ℕ, zero, suc, ◌+◌, ◌-◌, ◌<◌, ◌≤◌, Bool, true, false, cond, List, [], ◌∷◌, ◌++◌, length, map, replicate, take, Some, None, refl, ap, sym, subst, ◌∙◌, arith, rules, tests}
+use Rattle.std.proofs.Common.{◌≡◌, ℕ, zero, suc, ◌+◌, ◌-◌, ◌<◌, ◌≤◌, Bool, true, false, cond, List, [], ◌∷◌, ◌++◌, length, map, replicate, take, None, refl, ap, sym, subst, ◌∙◌, arith}
 use Rattle.std.specs.Prelude.{◌==◌, slice_get, nat_lt, All, get_or}
-use Rattle.std.specs.List.{filter}
 use Rattle.p9_word.specs.declared.setup.ThreadSetup.{ThreadSetup}
 use Rattle.p9_manual.specs.declared.state.Thread.{Thread}
 use Rattle.p9_manual.specs.History.{ids_from, new_thread, new_channel, new_proc, begin_state}
-use Rattle.p9_manual.specs.State.{Proc, by_id, changed}
-use Rattle.p9_manual.specs.Places.{is_of}
+use Rattle.p9_manual.specs.State.{Proc, changed}
 use Rattle.p9_manual.specs.Standing.{times}
 use Rattle.p9_sched.specs.Schedule.{Schedule, with_new, with_name_of, with_last, all_rooms, IsPlace, line_in, begin_schedule}
 use Rattle.p9_manual.specs.declared.state.Ioproc.TheVariants.{Unmade}
+use Rattle.rand_pcg.specs.Lcg.{started, increment_of, state_after}
+use Rattle.rand_pcg.specs.Pcg.{multiplier_64}
+use Rattle.p9_manual.specs.Words.{generator_after}
+use Rattle.p9_chan.specs.Channels.{emptied_chan}
 use Rattle.p9_machine.specs.declared.board.Board.{Board}
 use Rattle.p9_machine.specs.Desks.{ioprocs_of}
-use Rattle.p9_machine.specs.Board.{AreParts, Stands, proc_with}
+use Rattle.p9_machine.specs.Board.{AreLines, Stands, proc_with}
 use Rattle.p9_word.specs.declared.setup.Setup.{Setup}
 use Rattle.p9_word.specs.Setup.{IsThreadOf, IsValid}
 use Rattle.std.proofs.lemmas.List.{length-map, length-take-le, take_more}
 use Rattle.p9_machine.proofs.Places.{map_push}
-use Rattle.p9_machine.proofs.Parts.{CasesEq, Same, Other, cases_eq, eq_same, eq_other, parts_last, is_of_made, changed_length}
+use Rattle.p9_machine.proofs.Making.{parts_made}
+use Rattle.p9_machine.proofs.Parts.{eq_other, changed_length}
 
 changed_last : {A : Type 0} (f : A → A) → (xs : List A) (x : A) → changed f (xs ++ x ∷ []) (length xs) ≡ xs ++ f x ∷ []
 changed_last f [] x = refl
@@ -33,50 +36,10 @@ added setup t name s r m n er et em en same =
     let at : length s.threads + 1 - 1 ≡ length s.threads = omega arith in
     rw (en, em, et, er, same) (record { threads = rw at (changed_last _ s.threads _); lines = refl })
 
-get_last : {A : Type 0} → (xs : List A) (x : A) → slice_get (xs ++ x ∷ []) (length xs) ≡ Some x
-get_last [] x = refl
-get_last (y ∷ xs) x = get_last xs x
-
-get_before : {A : Type 0} → (xs : List A) (x : A) (i : ℕ) → i ≢ length xs → slice_get (xs ++ x ∷ []) i ≡ slice_get xs i
-get_before [] x zero n = absurd (n refl)
-get_before [] x (suc i) n = refl
-get_before (y ∷ xs) x zero n = refl
-get_before (y ∷ xs) x (suc i) n = get_before xs x i (λ e. n (ap suc e))
-
-pub by_id_last : {A : Type 0} → (xs : List A) (x : A) → by_id (xs ++ x ∷ []) (length xs + 1) ≡ Some x
-by_id_last xs x =
-    let b : nat_lt 0 (length xs + 1) ≡ true = search (rules, tests) in
-    let at : length xs + 1 - 1 ≡ length xs = omega arith in
-    rw (b, at) (get_last xs x)
-
-pub by_id_before : {A : Type 0} → (xs : List A) (x : A) (u : ℕ) → u ≢ length xs + 1 → by_id (xs ++ x ∷ []) u ≡ by_id xs u
-by_id_before xs x zero n = refl
-by_id_before xs x (suc u) n =
-    let b : nat_lt 0 (suc u) ≡ true = search (rules, tests) in
-    rw b (get_before xs x (suc u - 1) (λ e. n (omega arith)))
-
-same_step : (t x : ℕ) (p q : ℕ → Bool) (line : List ℕ) → ((u : ℕ) → u ≢ t → p u ≡ q u) → times (λ u. u == t) (x ∷ line) ≡ 0 → (times (λ u. u == t) line ≡ 0 → filter p line ≡ filter q line) → CasesEq x t → filter p (x ∷ line) ≡ filter q (x ∷ line)
-same_step t x p q line h none more (Same e) =
-    let b : (x == t) ≡ true = rw e (eq_same t) in
-    let one : 1 + times (λ u. u == t) line ≡ 0 = rw b at none in
-    absurd (omega arith)
-same_step t x p q line h none more (Other e) =
-    let b : (x == t) ≡ false = eq_other x t e in
-    let rest : 0 + times (λ u. u == t) line ≡ 0 = rw b at none in
-    rw (h x e, more (omega arith)) refl
-
--- tests that agree but for an item that isn't there
-filter_same : (t : ℕ) (p q : ℕ → Bool) → ((u : ℕ) → u ≢ t → p u ≡ q u) → (line : List ℕ) → times (λ u. u == t) line ≡ 0 → filter p line ≡ filter q line
-filter_same t p q h [] none = refl
-filter_same t p q h (x ∷ line) none = same_step t x p q line h none (filter_same t p q h line) (cases_eq x t)
-
 -- a thread that has no place in the line yet comes last
-pub parts_added : (setup : ThreadSetup) (s n : Schedule) (line : List ℕ) → 1 ≤ setup.proc_no → setup.proc_no ≤ length s.lines → Added setup s n → times (λ u. u == length s.threads + 1) line ≡ 0 → AreParts s line → AreParts n (line ++ (length s.threads + 1) ∷ [])
+pub parts_added : (setup : ThreadSetup) (s n : Schedule) (line : List ℕ) → 1 ≤ setup.proc_no → setup.proc_no ≤ length s.lines → Added setup s n → times (λ u. u == length s.threads + 1) line ≡ 0 → AreLines s line → AreLines n (line ++ (length s.threads + 1) ∷ [])
 parts_added setup s n line a b add none h =
-    parts_last setup.proc_no (length s.threads + 1) s n line a b add.lines
-    (λ p. filter_same (length s.threads + 1) (λ u. is_of p (by_id n.threads u)) (λ u. is_of p (by_id s.threads u)) (λ u other. rw (add.threads, by_id_before s.threads (new_thread setup) u other) refl) line none)
-    (λ p. is_of_made p (by_id n.threads (length s.threads + 1)) (new_thread setup) (rw add.threads (by_id_last s.threads (new_thread setup))))
-    h
+    parts_made setup.proc_no (new_thread setup) s n line a b refl add.threads add.lines none h
 
 pub places_added : (setup : ThreadSetup) (s n : Schedule) → Added setup s n → length n.lines ≡ length s.lines
 places_added setup s n add = rw add.lines (changed_length _ _ _)
@@ -98,7 +61,7 @@ not_given t n (x ∷ xs) h =
 -- the threads at the start that were made so far
 pub record FirstStand (setup : Setup) (ys : List ThreadSetup) (s : Schedule) : Type 0 where
   pub threads : s.threads ≡ map new_thread ys
-  pub parts : AreParts s (ids_from 1 ys)
+  pub parts : AreLines s (ids_from 1 ys)
   pub words : s.words ≡ replicate setup.places 0
   pub opened : s.opened ≡ setup.opened
   pub places : length s.lines ≡ setup.places
@@ -127,7 +90,7 @@ none_stand setup s e = rw e (record {
 })
 
 -- one more thread
-pub one_more : (setup : Setup) (ys zs : List ThreadSetup) (x : ThreadSetup) (s n : Schedule) → zs ≡ ys ++ x ∷ [] → FirstStand setup ys s → n.threads ≡ s.threads ++ new_thread x ∷ [] → ((line : List ℕ) → times (λ u. u == length s.threads + 1) line ≡ 0 → AreParts s line → AreParts n (line ++ (length s.threads + 1) ∷ [])) → n.words ≡ s.words → n.opened ≡ s.opened → length n.lines ≡ length s.lines → FirstStand setup zs n
+pub one_more : (setup : Setup) (ys zs : List ThreadSetup) (x : ThreadSetup) (s n : Schedule) → zs ≡ ys ++ x ∷ [] → FirstStand setup ys s → n.threads ≡ s.threads ++ new_thread x ∷ [] → ((line : List ℕ) → times (λ u. u == length s.threads + 1) line ≡ 0 → AreLines s line → AreLines n (line ++ (length s.threads + 1) ∷ [])) → n.words ≡ s.words → n.opened ≡ s.opened → length n.lines ≡ length s.lines → FirstStand setup zs n
 one_more setup ys zs x s n ez first threads parts words opened places =
     let count : length s.threads ≡ length ys = ap length first.threads ∙ length-map ys new_thread in
     let parts_of = rw count at parts in
@@ -165,9 +128,20 @@ words_none : (n : ℕ) → map proc_with (replicate n 0) ≡ replicate n new_pro
 words_none zero = refl
 words_none (suc n) = ap (λ (xs : List Proc). new_proc ∷ xs) (words_none n)
 
+-- no word was drawn
+none_drawn : (start : ℕ) → generator_after start 0 ≡ started 64 multiplier_64 start (increment_of 64 54)
+unfolding state_after
+none_drawn start = refl
+
 -- the board at the start
-pub begun_board : (setup : Setup) (b : Board) → b.setup ≡ setup → b.sched.threads ≡ map new_thread setup.threads → AreParts b.sched (ids_from 1 setup.threads) → b.sched.words ≡ replicate setup.places 0 → b.sched.opened ≡ setup.opened → b.waits.items ≡ [] → b.chans.items ≡ map new_channel setup.chans → ioprocs_of b.desks.items ≡ replicate setup.files Unmade → b.entries ≡ 0 → b.over ≡ false → Stands b (begin_state setup)
-begun_board setup b es et parts ew eo ea ec ei en ev = record {
-  state = rw (es, et, ew, words_none setup.places, eo, ea, ec, ei, en, ev) refl;
-  parts = parts;
+pub begun_board : (setup : Setup) (b : Board) → b.setup ≡ setup → b.sched.threads ≡ map new_thread setup.threads → AreLines b.sched (ids_from 1 setup.threads) → b.sched.words ≡ replicate setup.places 0 → b.sched.opened ≡ setup.opened → b.alts.waits ≡ [] → b.alts.channels.chans ≡ map new_channel setup.chans → ioprocs_of b.desks.items ≡ replicate setup.files Unmade → b.generator ≡ started 64 multiplier_64 setup.start (increment_of 64 54) → b.freed.items ≡ [] → b.entries ≡ 0 → b.over ≡ false → Stands b (begin_state setup)
+begun_board setup b es et lines ew eo ea ec ei eg ef en ev = record {
+  state = rw (es, et, ew, words_none setup.places, eo, ei, en, ev) refl;
+  parts = record {
+    lines = lines;
+    waits = ea;
+    chans = ap (map emptied_chan) ec;
+    draws = eg ∙ (rw es (sym (none_drawn setup.start)));
+    freed = rw ef (λ i x lt. absurd (omega arith));
+  };
 }

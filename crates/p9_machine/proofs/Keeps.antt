@@ -21,19 +21,22 @@ use Rattle.p9_manual.specs.Sound.{IsSound}
 use Rattle.p9_manual.specs.State.{State, Outcome, by_id}
 use Rattle.p9_manual.specs.Step.{step, makes_entry}
 use Rattle.p9_manual.specs.History.{state_after, IsLegal, with_entry}
+use Rattle.p9_alt.specs.Exchange.{Exchange}
 use Rattle.p9_machine.specs.declared.board.Board.{Board}
+use Rattle.p9_machine.specs.Desks.{ioprocs_of}
 use Rattle.p9_machine.specs.declared.reserve.Reserved.{Reserved}
 use Rattle.p9_machine.specs.declared.machine.Machine.TheInside.{Inside}
 use Rattle.p9_sched.specs.Schedule.{Schedule}
-use Rattle.p9_machine.specs.Board.{state_of, calls_of, settled, with_answer, Stands, AreParts, IsUsable, Gives, Follows}
+use Rattle.p9_machine.specs.Board.{Rest, state_of, rest_of, calls_of, settled, with_answer, Stands, AreParts, IsUsable, Gives, Follows}
 use Rattle.p9_machine.specs.Calls.{begun_call, begun_count, call_length_of}
 use Rattle.p9_machine.specs.Copies.{IsForEvent, IsTold}
-use Rattle.p9_machine.specs.Ready.{HasBuffersFor}
-use Rattle.p9_machine.specs.Kept.{IsKept, HasMemoryIfAny}
+use Rattle.p9_machine.specs.Ready.{HasBuffersFor, HasMemoryIn}
+use Rattle.p9_machine.specs.Kept.{IsKept, HasMemoryIfAny, shown, reserved_of}
+use Rattle.p9_machine.specs.Shown.{Shown}
 use Rattle.p9_machine.proofs.Laws.{GoesOn, goes_on}
 
 -- the board stands for the state after the history with the event
-pub stands_on : (S T : Setup) (H K : List Entry) (seat : Seat) (event : Event) (r : Reply) (old new : Board) → T ≡ S → Stands old (state_after S H) → IsLegal S H → (state_after S H).entries ≡ length H → (r ≡ (step S seat event (state_of old (state_after S H).line)).reply) → Stands new (settled (makes_entry r) (state_of old (state_after S H).line) (step S seat event (state_of old (state_after S H).line)).state) → K ≡ with_entry H seat event r → GoesOn T K (state_after T K) × Stands new (state_after T K)
+pub stands_on : (S T : Setup) (H K : List Entry) (seat : Seat) (event : Event) (r : Reply) (old new : Board) → T ≡ S → Stands old (state_after S H) → IsLegal S H → (state_after S H).entries ≡ length H → (r ≡ (step S seat event (state_of old (rest_of (state_after S H)))).reply) → Stands new (settled (makes_entry r) (state_of old (rest_of (state_after S H))) (step S seat event (state_of old (rest_of (state_after S H)))).state) → K ≡ with_entry H seat event r → GoesOn T K (state_after T K) × Stands new (state_after T K)
 stands_on S T H K seat event r old new same stands legal counted re te ke =
     let re' : r ≡ (step S seat event (state_after S H)).reply = subst (λ (s : State). r ≡ (step S seat event s).reply) stands.state re in
     let te' = subst (λ (s : State). Stands new (settled (makes_entry r) s (step S seat event s).state)) stands.state te in
@@ -43,12 +46,12 @@ stands_on S T H K seat event r old new same stands legal counted re te ke =
     subst (λ (U : Setup). GoesOn U K (state_after U K) × Stands new (state_after U K)) (sym same) (go, at)
 
 -- outcomes that are the same are followed alike
-pub follows_by : (old new : Board) (line : List ℕ) (seat : Seat) (r : Reply) (o p : Outcome) → o ≡ p → Follows old line seat p r new → Follows old line seat o r new
-follows_by old new line seat r o p e h = subst (λ (q : Outcome). Follows old line seat q r new) (sym e) h
+pub follows_by : (old new : Board) (rest : Rest) (seat : Seat) (r : Reply) (o p : Outcome) → o ≡ p → Follows old rest seat p r new → Follows old rest seat o r new
+follows_by old new rest seat r o p e h = subst (λ (q : Outcome). Follows old rest seat q r new) (sym e) h
 
 -- and give the same
-pub gives_by : (old new : Board) (line : List ℕ) (r : Reply) (o p : Outcome) → o ≡ p → Gives old line p r new → Gives old line o r new
-gives_by old new line r o p e h = subst (λ (q : Outcome). Gives old line q r new) (sym e) h
+pub gives_by : (old new : Board) (rest : Rest) (r : Reply) (o p : Outcome) → o ≡ p → Gives old rest p r new → Gives old rest o r new
+gives_by old new rest r o p e h = subst (λ (q : Outcome). Gives old rest q r new) (sym e) h
 
 if_false : {A : Type 0} (b : Bool) (x y : A) → b ≡ false → (if b then x else y) ≡ y
 if_false true x y e = cc
@@ -84,41 +87,43 @@ short_by true (Some Closed) h = tt
 pub short_begun : (k : ℕ) (ios : List Ioproc) → call_length_of (slice_get ios (k - 1)) ≤ 4294967295 → IfSome (begun_call (by_id ios k)) (λ call. message_length call < 2 ^ 32)
 short_begun k ios h = short_by (nat_lt 0 k) (slice_get ios (k - 1)) h
 
-memory_with : (a b : Board) (es : Filled Entry) (r : Option Reserved) → b.sched ≡ a.sched → b.waits ≡ a.waits → state_of b [] ≡ state_of a [] → HasMemoryIfAny a es r → HasMemoryIfAny b es r
-memory_with a b es None sch w e h = tt
-memory_with a b es (Some r) sch w e h =
-    let same : calls_of b ≡ calls_of a = ap (λ (s : State). begun_count s.ioprocs) e in
+memory_with : (a b : Board) (es : Filled Entry) (r : Option Reserved) → b.sched ≡ a.sched → b.alts ≡ a.alts → b.freed ≡ a.freed → ioprocs_of b.desks.items ≡ ioprocs_of a.desks.items → HasMemoryIfAny a es r → HasMemoryIfAny b es r
+memory_with a b es None sch al fr io h = tt
+memory_with a b es (Some r) sch al fr io h =
+    let same : calls_of b ≡ calls_of a = ap begun_count io in
     let spare = h.1.spare in (
       record {
-        room = record { waits = rw w h.0.room.waits; rooms = rw sch h.0.room.rooms };
-        buffers = subst (λ (ios : List Ioproc). HasBuffersFor r.seat r.event ios r.spares) (sym (ap (λ (s : State). s.ioprocs) e)) h.0.buffers;
-        extra = subst (λ (s : State). IsForEvent r.seat r.event s r.spares.extra) (sym e) h.0.extra;
-        told = subst (λ (s : Schedule). IsTold r.seat r.event (state_of b []) s r.told) (sym sch) (subst (λ (s : State). IsTold r.seat r.event s a.sched r.told) (sym e) h.0.told);
+        room = record { rooms = rw sch h.0.room.rooms; freed = rw fr h.0.room.freed };
+        buffers = subst (λ (ios : List Ioproc). HasBuffersFor r.seat r.event ios r.spares) (sym io) h.0.buffers;
+        extra = subst (λ (ios : List Ioproc). IsForEvent r.seat r.event b.sched.threads ios r.spares.extra) (sym io) (subst (λ (s : Schedule). IsForEvent r.seat r.event s.threads (ioprocs_of a.desks.items) r.spares.extra) (sym sch) h.0.extra);
+        told = subst (λ (ios : List Ioproc). IsTold r.seat r.event b.sched ios r.told) (sym io) (subst (λ (s : Schedule). IsTold r.seat r.event s (ioprocs_of a.desks.items) r.told) (sym sch) h.0.told);
+        request = subst (λ (x : Exchange). HasMemoryIn r.event r.spares.entries r.spares.wakes x) (sym al) h.0.request;
       },
       record { spare = omega arith },
     )
 
--- a machine keeps what it keeps with a board that stands for the same
-pub kept_with : (m : Inside) (b : Board) → IsKept m → b.sched ≡ m.board.sched → b.waits ≡ m.board.waits → b.setup ≡ m.board.setup → ((line : List ℕ) → state_of b line ≡ state_of m.board line) → IsKept (record m { board = b })
-kept_with m b k sch w same e =
-    let calls : calls_of b ≡ calls_of m.board = ap (λ (s : State). begun_count s.ioprocs) (e []) in
+-- a machine keeps what it keeps with the same ioprocs at other desks
+pub kept_with : (m : Inside) (b : Board) → IsKept m → b ≡ record m.board { desks = b.desks } → ioprocs_of b.desks.items ≡ ioprocs_of m.board.desks.items → IsKept (record m { board = b })
+kept_with m b k ne io =
+    let its : Board = record m.board { desks = b.desks } in
+    let calls : calls_of its ≡ calls_of m.board = ap begun_count io in
     let spare = k.spare in
     let after = state_after m.board.setup m.trail.entries.items in
-    let stands : Stands b after = record { state = e after.line ∙ k.board.state; parts = rw sch k.board.parts } in
-    record {
-      valid = rw same k.valid;
-      board = subst (λ (S : Setup). Stands b (state_after S m.trail.entries.items)) (sym same) stands;
-      places = rw (sch, same) k.places;
-      legal = subst (λ (S : Setup). IsLegal S m.trail.entries.items) (sym same) k.legal;
-      counted = ap (λ (s : State). s.entries) (e []) ∙ k.counted;
-      procs = k.procs ∙ ap (λ (S : Setup). S.procs) (sym same);
-      start = k.start ∙ ap (λ (S : Setup). S.start) (sym same);
+    let kept : IsKept (record m { board = its }) = record {
+      valid = k.valid;
+      board = record { state = ap (λ (ios : List Ioproc). record (state_of m.board (rest_of after)) { ioprocs = ios }) io ∙ k.board.state; parts = k.board.parts };
+      places = k.places;
+      legal = k.legal;
+      counted = k.counted;
+      procs = k.procs;
+      start = k.start;
       spare = omega arith;
-      memory = memory_with m.board b m.trail.entries m.reserved sch w (e []) k.memory;
-    }
+      memory = memory_with m.board its m.trail.entries m.reserved refl refl refl io k.memory;
+    } in
+    subst (λ (x : Board). IsKept (record m { board = x })) (sym ne) kept
 
--- with the line of the state after its history a machine's board stands for a sound state
-pub usable_now : (m : Inside) → IsKept m → IsSound m.board.setup (state_after m.board.setup m.trail.entries.items) → IsUsable m.board (state_after m.board.setup m.trail.entries.items).line
+-- with the parts of the state after its history a machine's board stands for a sound state
+pub usable_now : (m : Inside) → IsKept m → IsSound m.board.setup (state_after m.board.setup m.trail.entries.items) → IsUsable m.board (rest_of (state_after m.board.setup m.trail.entries.items))
 usable_now m k sound = record {
   parts = k.board.parts;
   sound = subst (λ (s : State). IsSound m.board.setup s) (sym k.board.state) sound;
@@ -126,18 +131,31 @@ usable_now m k sound = record {
 }
 
 -- a machine keeps what it keeps with more memory
-pub kept_moved : (m : Inside) (b : Board) (es : Filled Entry) (r : Option Reserved) → IsKept m → ((line : List ℕ) → state_of b line ≡ state_of m.board line) → ((line : List ℕ) → AreParts m.board.sched line → AreParts b.sched line) → length b.sched.lines ≡ length m.board.sched.lines → b.setup ≡ m.board.setup → es.items ≡ m.trail.entries.items → calls_of b ≤ es.spare → HasMemoryIfAny b es r → IsKept (record m { board = b; trail = record m.trail { entries = es }; reserved = r })
+pub kept_moved : (m : Inside) (b : Board) (es : Filled Entry) (r : Option Reserved) → IsKept m → ((rest : Rest) → state_of b rest ≡ state_of m.board rest) → ((rest : Rest) → AreParts m.board rest → AreParts b rest) → length b.sched.lines ≡ length m.board.sched.lines → b.setup ≡ m.board.setup → es.items ≡ m.trail.entries.items → calls_of b ≤ es.spare → HasMemoryIfAny b es r → IsKept (record m { board = b; trail = record m.trail { entries = es }; reserved = r })
 kept_moved m b es r k e parts places same items spare memory =
     let after = state_after m.board.setup m.trail.entries.items in
-    let stands : Stands b after = record { state = e after.line ∙ k.board.state; parts = parts after.line k.board.parts } in
+    let stands : Stands b after = record { state = e (rest_of after) ∙ k.board.state; parts = parts (rest_of after) k.board.parts } in
     record {
       valid = rw same k.valid;
       board = rw items (subst (λ (S : Setup). Stands b (state_after S m.trail.entries.items)) (sym same) stands);
       places = rw same (places ∙ k.places);
       legal = rw items (subst (λ (S : Setup). IsLegal S m.trail.entries.items) (sym same) k.legal);
-      counted = ap (λ (s : State). s.entries) (e []) ∙ (k.counted ∙ ap (λ (xs : List Entry). length xs) (sym items));
+      counted = ap (λ (s : State). s.entries) (e (rest_of after)) ∙ (k.counted ∙ ap (λ (xs : List Entry). length xs) (sym items));
       procs = k.procs ∙ ap (λ (S : Setup). S.procs) (sym same);
       start = k.start ∙ ap (λ (S : Setup). S.start) (sym same);
       spare = spare;
       memory = memory;
     }
+
+-- the reply by the board is that by the history
+pub replied : (m : Inside) (seat : Seat) (event : Event) (r : Reply) → IsKept m → r ≡ (step m.board.setup seat event (state_of m.board (rest_of (state_after m.board.setup m.trail.entries.items)))).reply → r ≡ (step m.board.setup seat event (state_after m.board.setup m.trail.entries.items)).reply
+replied m seat event r k e = subst (λ (s : State). r ≡ (step m.board.setup seat event s).reply) k.board.state e
+
+some_is : {A : Type 0} (x y : A) → Some x ≡ Some y → x ≡ y
+some_is x y e = cc
+
+-- the event that there is memory for is that which was reserved
+pub reserved_seat : (m : Inside) (v : Shown) (seat : Seat) (event : Event) (r : Reserved) → shown m ≡ v → v.reserved ≡ Some (seat, event) → m.reserved ≡ Some r → r.seat ≡ seat
+reserved_seat m v seat event r view is at =
+    let e : Some (r.seat, r.event) ≡ Some (seat, event) = ap reserved_of (sym at) ∙ (ap (λ (x : Shown). x.reserved) view ∙ is) in
+    ap (λ (x : Seat × Event). x.0) (some_is _ _ e)

@@ -1,5 +1,5 @@
-pub mod Moves
 pub mod Parts
+pub mod Rests
 pub mod Laws
 pub mod Places
 pub mod Keeps
@@ -9,3 +9,16 @@ pub mod Making
 pub mod Waking
 pub mod Turning
 pub mod Beginning
+pub mod Alike
+pub mod AlikeDeals
+pub mod Verdicts
+pub mod Parties
+pub mod Closing
+pub mod Waken
+pub mod Channels
+pub mod Closes
+pub mod Drawn
+pub mod Alternates
+pub mod Offering
+pub mod ChanCalls
+pub mod Telling

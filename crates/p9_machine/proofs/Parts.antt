@@ -1,5 +1,5 @@
 -- What happens to the procs' lines, and to the line of all ready threads of which they are the parts.
-use Rattle.std.proofs.Common.{◌≡◌, ◌≢◌, ℕ, zero, suc, ◌+◌, ◌-◌, ◌<◌, ◌≤◌, Bool, true, false, not, cond, ◌||◌, List, [], ◌∷◌, ◌++◌, length, map, Option, Some, None, refl, ap, sym, ◌∙◌, subst, arith, rules, tests}
+use Rattle.std.proofs.Common.{◌≡◌, ◌≢◌, ℕ, zero, suc, ◌+◌, ◌-◌, ◌<◌, ◌≤◌, Bool, true, false, not, cond, ◌||◌, List, [], ◌∷◌, ◌++◌, length, map, Option, Some, None, refl, ap, sym, ◌∙◌, arith, rules, tests}
 use Rattle.std.specs.Prelude.{◌==◌, slice_get, nat_lt, drop}
 use Rattle.std.specs.List.{filter, list_any}
 use Rattle.std.proofs.lemmas.List.Elements.{filter-append}
@@ -7,13 +7,13 @@ use Rattle.p9_word.specs.declared.answer.Answer.{Answer}
 use Rattle.p9_manual.specs.declared.state.Place.{Place as Stand}
 use Rattle.p9_manual.specs.declared.state.Place.TheVariants.{Running, Ready, Waiting, Ended}
 use Rattle.p9_manual.specs.declared.state.Thread.{Thread}
-use Rattle.p9_manual.specs.State.{by_id, changed, placed, at_place, pick, behind}
+use Rattle.p9_manual.specs.State.{by_id, changed, at_place, pick, behind}
 use Rattle.p9_manual.specs.Places.{is_of}
 use Rattle.p9_word.specs.declared.setup.Setup.{Setup}
 use Rattle.p9_manual.specs.Next.{is_place}
 use Rattle.p9_manual.specs.Standing.{times}
 use Rattle.p9_sched.specs.Schedule.{Schedule, IsPlace, line_of, line_in, with_last, without, emptied, readied, waiting, ended, all_ended, begun, proc_of}
-use Rattle.p9_machine.specs.Board.{AreParts}
+use Rattle.p9_machine.specs.Board.{AreLines}
 
 -- two numbers are the same or not
 pub data CasesEq (a b : ℕ) : Type 0 where
@@ -83,7 +83,7 @@ pub is_of_keeps : (f : Thread → Thread) → KeepsProc f → (p : ℕ) (xs : Li
 is_of_keeps f k p xs i u = keeps_if (nat_lt 0 u) p _ _ (slice_keeps f k p xs i (u - 1))
 
 -- where threads are changed, but no proc, the lines stay the parts
-pub parts_changed : (f : Thread → Thread) → KeepsProc f → (s n : Schedule) (i : ℕ) (line : List ℕ) → n.threads ≡ changed f s.threads i → n.lines ≡ s.lines → AreParts s line → AreParts n line
+pub parts_changed : (f : Thread → Thread) → KeepsProc f → (s n : Schedule) (i : ℕ) (line : List ℕ) → n.threads ≡ changed f s.threads i → n.lines ≡ s.lines → AreLines s line → AreLines n line
 parts_changed f k s n i line et el h = record {
   part = λ p a b.
       let part = h.part p a (rw el at b) in
@@ -138,16 +138,12 @@ part_last q p t s n line a b c d el same at part (Other e) =
     let off : is_of p (by_id n.threads t) ≡ false = at ∙ eq_other q p (λ h. e (sym h)) in
     rw (filter-append, off, same, el, line_other (with_last t) s.lines q p c a e) (part ∙ sym (append_none _))
 
-pub parts_last : (q t : ℕ) (s n : Schedule) (line : List ℕ) → 1 ≤ q → q ≤ length s.lines → n.lines ≡ changed (with_last t) s.lines (q - 1) → ((p : ℕ) → filter (λ u. is_of p (by_id n.threads u)) line ≡ filter (λ u. is_of p (by_id s.threads u)) line) → ((p : ℕ) → is_of p (by_id n.threads t) ≡ (q == p)) → AreParts s line → AreParts n (line ++ t ∷ [])
+pub parts_last : (q t : ℕ) (s n : Schedule) (line : List ℕ) → 1 ≤ q → q ≤ length s.lines → n.lines ≡ changed (with_last t) s.lines (q - 1) → ((p : ℕ) → filter (λ u. is_of p (by_id n.threads u)) line ≡ filter (λ u. is_of p (by_id s.threads u)) line) → ((p : ℕ) → is_of p (by_id n.threads t) ≡ (q == p)) → AreLines s line → AreLines n (line ++ t ∷ [])
 parts_last q t s n line a b el same at h = record {
   part = λ p c d.
       let e : p ≤ length s.lines = rw (el, changed_length) at d in
       part_last q p t s n line a b c e el (same p) (at p) (h.part p c e) (cases_eq p q);
 }
-
-at_if : (b : Bool) (p : ℕ) (o : Option Thread) (thread : Thread) → cond b o None ≡ Some thread → is_of p (cond b o None) ≡ (thread.proc_no == p)
-at_if true p o thread e = rw e refl
-at_if false p o thread e = cc
 
 -- the proc of a thread that was made
 pub is_of_made : (p : ℕ) (o : Option Thread) (thread : Thread) → o ≡ Some thread → is_of p o ≡ (thread.proc_no == p)
@@ -157,7 +153,7 @@ pub place_keeps : (pl : Stand) → KeepsProc (at_place pl)
 place_keeps pl = record { same = λ x. refl }
 
 -- a thread that is ready
-pub parts_readied : (t : ℕ) (a : Answer) (s : Schedule) (thread : Thread) (line : List ℕ) → by_id s.threads t ≡ Some thread → 1 ≤ thread.proc_no → thread.proc_no ≤ length s.lines → AreParts s line → AreParts (readied t a s) (line ++ t ∷ [])
+pub parts_readied : (t : ℕ) (a : Answer) (s : Schedule) (thread : Thread) (line : List ℕ) → by_id s.threads t ≡ Some thread → 1 ≤ thread.proc_no → thread.proc_no ≤ length s.lines → AreLines s line → AreLines (readied t a s) (line ++ t ∷ [])
 parts_readied t a s thread line e c d h =
     parts_last thread.proc_no t s (readied t a s) line c d (rw e refl)
     (λ p. filter_ext _ _ (λ u. is_of_keeps (at_place (Ready a)) (place_keeps (Ready a)) p s.threads (t - 1) u) line)
@@ -172,7 +168,7 @@ part_ended q p t s n line a c d el same at part (Other e) =
     let off : is_of p (by_id s.threads t) ≡ false = at ∙ eq_other q p (λ h. e (sym h)) in
     rw (el, line_other (without t) s.lines q p c a e, part, filter_ext _ _ same (without t line)) (sym (filter_skip t (λ u. is_of p (by_id s.threads u)) off line))
 
-pub parts_ended : (t : ℕ) (s : Schedule) (thread : Thread) (line : List ℕ) → by_id s.threads t ≡ Some thread → 1 ≤ thread.proc_no → AreParts s line → AreParts (ended t s) (without t line)
+pub parts_ended : (t : ℕ) (s : Schedule) (thread : Thread) (line : List ℕ) → by_id s.threads t ≡ Some thread → 1 ≤ thread.proc_no → AreLines s line → AreLines (ended t s) (without t line)
 parts_ended t s thread line e c h = record {
   part = λ p a b.
       let d : p ≤ length s.lines = rw changed_length at b in
@@ -187,7 +183,7 @@ get_emptied [] i = refl
 get_emptied (x ∷ xs) zero = refl
 get_emptied (x ∷ xs) (suc i) = get_emptied xs i
 
-pub parts_all_ended : (s : Schedule) → AreParts (all_ended s) []
+pub parts_all_ended : (s : Schedule) → AreLines (all_ended s) []
 parts_all_ended s = record { part = λ p a b. rw (by_id_is (map emptied s.lines) p a) (get_emptied s.lines (p - 1)) }
 
 -- the first item that passes is the one that is picked
@@ -239,7 +235,7 @@ part_begun q p t rest line others s n a c d el same at first mine left part (Oth
     let off : is_of p (by_id s.threads t) ≡ false = at ∙ eq_other q p (λ h. e (sym h)) in
     rw (el, line_other (drop 1) s.lines q p c a e, part, filter_ext _ _ same others) (sym (left (λ u. is_of p (by_id s.threads u)) off))
 
-pub parts_begun : (q t : ℕ) (rest line : List ℕ) (s : Schedule) (thread : Thread) → 1 ≤ q → by_id s.threads t ≡ Some thread → thread.proc_no ≡ q → line_of q s ≡ t ∷ rest → (f : FirstOf (λ u. is_of q (by_id s.threads u)) t rest line) → AreParts s line → AreParts (begun q t s) f.others
+pub parts_begun : (q t : ℕ) (rest line : List ℕ) (s : Schedule) (thread : Thread) → 1 ≤ q → by_id s.threads t ≡ Some thread → thread.proc_no ≡ q → line_of q s ≡ t ∷ rest → (f : FirstOf (λ u. is_of q (by_id s.threads u)) t rest line) → AreLines s line → AreLines (begun q t s) f.others
 parts_begun q t rest line s thread a e pe first f h = record {
   part = λ p c b.
       let d : p ≤ length s.lines = rw changed_length at b in
@@ -264,24 +260,13 @@ place_from S p h = search (rules, tests)
 pub place_to : (S : Setup) (p : ℕ) → is_place S p ≡ true → p ≤ S.places
 place_to S p h = search (rules, tests)
 
-ready_by : (o : Option Thread) (t : ℕ) (a : Answer) (s : Schedule) (line : List ℕ) → by_id s.threads t ≡ o → IsPlace (proc_of o) s → AreParts s line → AreParts (readied t a s) (line ++ t ∷ [])
+ready_by : (o : Option Thread) (t : ℕ) (a : Answer) (s : Schedule) (line : List ℕ) → by_id s.threads t ≡ o → IsPlace (proc_of o) s → AreLines s line → AreLines (readied t a s) (line ++ t ∷ [])
 ready_by None t a s line e p h = let from = p.from in absurd (omega arith)
 ready_by (Some thread) t a s line e p h = parts_readied t a s thread line e p.from p.to h
 
 -- a thread that is ready, of whose proc nothing but its place is known
-pub parts_ready : (t : ℕ) (a : Answer) (s n : Schedule) (line : List ℕ) → n ≡ readied t a s → IsPlace (proc_of (by_id s.threads t)) s → AreParts s line → AreParts n (line ++ t ∷ [])
+pub parts_ready : (t : ℕ) (a : Answer) (s n : Schedule) (line : List ℕ) → n ≡ readied t a s → IsPlace (proc_of (by_id s.threads t)) s → AreLines s line → AreLines n (line ++ t ∷ [])
 parts_ready t a s n line e p h = rw e (ready_by (by_id s.threads t) t a s line refl p h)
 
-end_by : (o : Option Thread) (t : ℕ) (s : Schedule) (line : List ℕ) → by_id s.threads t ≡ o → IsPlace (proc_of o) s → AreParts s line → AreParts (ended t s) (without t line)
-end_by None t s line e p h = let from = p.from in absurd (omega arith)
-end_by (Some thread) t s line e p h = parts_ended t s thread line e p.from h
-
--- and of one that has ended
-pub parts_end : (t : ℕ) (s n : Schedule) (line : List ℕ) → n ≡ ended t s → IsPlace (proc_of (by_id s.threads t)) s → AreParts s line → AreParts n (without t line)
-parts_end t s n line e p h = rw e (end_by (by_id s.threads t) t s line refl p h)
-
-pub parts_wait : (t : ℕ) (s n : Schedule) (line : List ℕ) → n ≡ waiting t s → AreParts s line → AreParts n line
+pub parts_wait : (t : ℕ) (s n : Schedule) (line : List ℕ) → n ≡ waiting t s → AreLines s line → AreLines n line
 parts_wait t s n line e h = rw e (parts_changed (at_place Waiting) (place_keeps Waiting) s (waiting t s) (t - 1) line refl refl h)
-
-pub parts_room : (s n : Schedule) (line : List ℕ) → n.threads ≡ s.threads → n.lines ≡ s.lines → AreParts s line → AreParts n line
-parts_room s n line et el h = record { part = λ p a b. rw (et, el) (h.part p a (rw el at b)) }

@@ -24,16 +24,6 @@ map_past f g [] i le = refl
 map_past f g (x ∷ xs) zero le = absurd (omega arith)
 map_past f g (x ∷ xs) (suc i) le = ap (λ zs. f x ∷ zs) (map_past f g xs i (omega arith))
 
-pub map_within : {A B : Type 0} (f : A → B) → (xs : List A) (i : ℕ) (d : A) → i < length xs → slice_get (map f xs) i ≡ Some (f (get_or xs i d))
-map_within f [] i d lt = absurd (omega arith)
-map_within f (x ∷ xs) zero d lt = refl
-map_within f (x ∷ xs) (suc i) d lt = map_within f xs i d (omega arith)
-
-pub slice_get-within : {A : Type 0} → (xs : List A) (i : ℕ) (d : A) → i < length xs → slice_get xs i ≡ Some (get_or xs i d)
-slice_get-within [] i d lt = absurd (omega arith)
-slice_get-within (x ∷ xs) zero d lt = refl
-slice_get-within (x ∷ xs) (suc i) d lt = slice_get-within xs i d (omega arith)
-
 pub slice_get-past : {A : Type 0} → (xs : List A) (i : ℕ) → length xs ≤ i → slice_get xs i ≡ None
 slice_get-past [] i le = refl
 slice_get-past (x ∷ xs) zero le = absurd (omega arith)
@@ -59,17 +49,6 @@ abbrev pub from : {A : Type 0} → (A → A) → ℕ → List A → List A
 from g zero xs = map g xs
 from g (suc i) [] = []
 from g (suc i) (x ∷ xs) = x ∷ from g i xs
-
-pub from_end : {A : Type 0} (g : A → A) → (i : ℕ) (xs : List A) → length xs ≤ i → from g i xs ≡ xs
-from_end g zero [] le = refl
-from_end g zero (x ∷ xs) le = absurd (omega arith)
-from_end g (suc i) [] le = refl
-from_end g (suc i) (x ∷ xs) le = ap (λ zs. x ∷ zs) (from_end g i xs (omega arith))
-
-pub from_at : {A : Type 0} (g : A → A) → (xs : List A) (i : ℕ) (y d : A) → i < length xs → y ≡ g (get_or xs i d) → from g (suc i) (set xs i y) ≡ from g i xs
-from_at g [] i y d lt e = absurd (omega arith)
-from_at g (x ∷ xs) zero y d lt e = ap (λ z. z ∷ map g xs) e
-from_at g (x ∷ xs) (suc i) y d lt e = ap (λ zs. x ∷ zs) (from_at g xs i y d (omega arith) e)
 
 pub from_more : {A B : Type 0} (f : A → B) (g : B → B) → (xs : List A) (i : ℕ) (y d : A) → i < length xs → f y ≡ g (f (get_or xs i d)) → from g (suc i) (map f (set xs i y)) ≡ from g i (map f xs)
 from_more f g [] i y d lt e = absurd (omega arith)

@@ -1,6 +1,6 @@
 -- The message of a reply is the one that was copied before.
-use Rattle.std.proofs.Common.{ℕ, ◌≡◌, Bool, true, false, not, cond, ◌||◌, List, [], ◌∷◌, Option, Some, None, refl, sym}
-use Rattle.std.specs.Prelude.{option_map, nat_lt}
+use Rattle.std.proofs.Common.{ℕ, ◌≡◌, Bool, true, false, not, cond, ◌||◌, List, [], ◌∷◌, length, Option, Some, None, refl, sym}
+use Rattle.std.specs.Prelude.{option_map, nat_lt, nat_le}
 use Rattle.std.specs.List.{list_any, filter}
 use Rattle.p9_word.specs.declared.trail.Seat.{Seat}
 use Rattle.p9_word.specs.declared.trail.Seat.TheVariants.{Proc, Io as IoSeat}
@@ -11,7 +11,7 @@ use Rattle.p9_word.specs.declared.request.Request.TheVariants.{Thread as ThreadR
 use Rattle.p9_word.specs.declared.request.ThreadReq.{ThreadReq}
 use Rattle.p9_word.specs.declared.request.ThreadReq.TheVariants as ask
 use Rattle.p9_word.specs.declared.request.ChanReq.{ChanReq}
-use Rattle.p9_word.specs.declared.request.ChanReq.TheVariants.{ChanClose, Send, Recv}
+use Rattle.p9_word.specs.declared.request.ChanReq.TheVariants as chan
 use Rattle.p9_word.specs.declared.request.IoReq.{IoReq}
 use Rattle.p9_word.specs.declared.request.IoReq.TheVariants.{IoProc, IoRun, CloseIoProc}
 use Rattle.p9_word.specs.declared.io_call.IoCall.{IoCall}
@@ -21,7 +21,6 @@ use Rattle.p9_manual.specs.declared.state.Place.{Place}
 use Rattle.p9_manual.specs.declared.state.Place.TheVariants.{Running, New, Ready, Waiting, Ended}
 use Rattle.p9_manual.specs.declared.state.Thread.{Thread}
 use Rattle.p9_manual.specs.declared.state.Channel.{Channel}
-use Rattle.p9_manual.specs.declared.state.Waiter.{Waiter}
 use Rattle.p9_manual.specs.declared.state.Ioproc.{Ioproc}
 use Rattle.p9_manual.specs.declared.state.Ioproc.TheVariants as stand
 use Rattle.p9_manual.specs.State.{State, Outcome, Proc as ThreadProc, by_id, pick, same}
@@ -29,7 +28,11 @@ use Rattle.p9_word.specs.declared.trail.Reply.TheVariants.{Stray, Over}
 use Rattle.p9_manual.specs.Places.{runs_there, runs_in, lives, is_of}
 use Rattle.p9_manual.specs.Create.{create_thread, create_proc, is_no_program, is_full}
 use Rattle.p9_manual.specs.Threads.{thread_call, asked, asked_by, pid_of, word_of, is_no_name}
-use Rattle.p9_manual.specs.Chans.{chan_call, send, send_to, recv, recv_from, close, is_too_long}
+use Rattle.p9_manual.specs.Offers.{Alternation, alternation}
+use Rattle.p9_manual.specs.Ready.{fits as fits_in}
+use Rattle.p9_manual.specs.Alt.{Verdict, AllClosed, Commits, NoneReady, MustWait, decided}
+use Rattle.p9_manual.specs.Close.{close, free, closing}
+use Rattle.p9_manual.specs.Chans.{chan_call, by_alternation, on_channel, is_no_size}
 use Rattle.p9_manual.specs.Ioprocs.{io_call, make, post_call, close_ioproc, take_call, did_call, fits, io_event}
 use Rattle.p9_manual.specs.Effects.{message_length}
 use Rattle.p9_manual.specs.Stuck.{is_stuck}
@@ -38,7 +41,8 @@ use Rattle.p9_manual.specs.Step.{outcome, called, served}
 use Rattle.p9_sched.specs.Schedule.{Schedule, line_of}
 use Rattle.p9_sched.specs.Turns.{first_answer, answer_of, answer_at}
 use Rattle.p9_machine.specs.declared.board.Board.{Board}
-use Rattle.p9_machine.specs.Board.{IsUsable, state_of}
+use Rattle.p9_machine.specs.Board.{Rest, IsUsable, state_of}
+use Rattle.p9_machine.specs.Desks.{ioprocs_of}
 use Rattle.p9_machine.proofs.Parts.{first_of, none_picked, place_from, place_to}
 use Rattle.p9_machine.specs.Copies.{IsOfReply, IsOfAnswer, IsOfNext, IsOfPosted, IsForThread, IsToldAtOnce, IsTold}
 
@@ -49,32 +53,47 @@ of_if : (m : List ℕ) (b : Bool) (o p : Outcome) → IsOf o m → IsOf p m → 
 of_if m true o p f g = f
 of_if m false o p f g = g
 
-of_send_to : (m : List ℕ) (t c elsize : ℕ) (v : Option (List ℕ)) (s : State) (o : Option (Waiter × List Waiter)) → IsOf (send_to t c elsize v s o) m
-of_send_to m t c elsize v s None = tt
-of_send_to m t c elsize v s (Some found) = tt
+of_decided : (m : List ℕ) (t : ℕ) (request : Request) (s : State) (v : Verdict) → IsOf (decided t request s v) m
+of_decided m t request s AllClosed = tt
+of_decided m t request s (Commits d) = tt
+of_decided m t request s NoneReady = tt
+of_decided m t request s MustWait = tt
 
-of_send : (m : List ℕ) (t c : ℕ) (v : Option (List ℕ)) (s : State) (o : Option Channel) → IsOf (send t c v s o) m
-of_send m t c v s None = tt
-of_send m t c v s (Some chan) =
-    of_if m (is_too_long chan.elsize v) _ _ tt (of_if m chan.closed _ _ tt (of_send_to m t c chan.elsize v s _))
-
-of_recv_from : (m : List ℕ) (t : ℕ) (keep : Bool) (c elsize : ℕ) (s : State) (o : Option (Waiter × List Waiter)) → IsOf (recv_from t keep c elsize s o) m
-of_recv_from m t keep c elsize s None = tt
-of_recv_from m t keep c elsize s (Some found) = tt
-
-of_recv : (m : List ℕ) (t : ℕ) (keep : Bool) (c : ℕ) (s : State) (o : Option Channel) → IsOf (recv t keep c s o) m
-of_recv m t keep c s None = tt
-of_recv m t keep c s (Some chan) = of_if m chan.closed _ _ tt (of_recv_from m t keep c chan.elsize s _)
+of_free : (m : List ℕ) (c : ℕ) (s : State) (o : Option Channel) → IsOf (free c s o) m
+of_free m c s None = tt
+of_free m c s (Some chan) = tt
 
 of_close : (m : List ℕ) (c : ℕ) (s : State) (o : Option Channel) → IsOf (close c s o) m
 of_close m c s None = tt
 of_close m c s (Some chan) = of_if m chan.closed _ _ tt tt
 
+of_closing : (m : List ℕ) (s : State) (o : Option Channel) → IsOf (closing s o) m
+of_closing m s None = tt
+of_closing m s (Some chan) = of_if m chan.closed _ _ tt tt
+
+of_channel : (m : List ℕ) (r : ChanReq) (s : State) → IsOf (on_channel r s) m
+of_channel m (chan.ChanCreate cap elsize) s = of_if m (is_no_size cap elsize) _ _ tt (of_if m (nat_le 1024 (length s.chans)) _ _ tt tt)
+of_channel m (chan.ChanFree c) s = of_free m c s _
+of_channel m (chan.ChanClose c) s = of_close m c s _
+of_channel m (chan.ChanClosing c) s = of_closing m s _
+of_channel m (chan.Alt ending entries) s = tt
+of_channel m (chan.Send c v) s = tt
+of_channel m (chan.Recv keep c) s = tt
+of_channel m (chan.NbSend c v) s = tt
+of_channel m (chan.NbRecv keep c) s = tt
+of_channel m (chan.SendUl c n) s = tt
+of_channel m (chan.RecvUl c) s = tt
+of_channel m (chan.NbSendUl c n) s = tt
+of_channel m (chan.NbRecvUl c) s = tt
+of_channel m (chan.ChanPrint c text) s = tt
+
+of_alternation : (m : List ℕ) (S : Setup) (t : ℕ) (r : ChanReq) (s : State) (o : Option Alternation) → IsOf (by_alternation S t r s o) m
+of_alternation m S t r s None = of_channel m r s
+of_alternation m S t r s (Some a) = of_if m (fits_in s.chans a.entries) _ _ (of_decided m t (ChanRequest r) _ _) tt
+
 of_chan : (m : List ℕ) (S : Setup) (t : ℕ) (r : ChanReq) (s : State) → IsOf (chan_call S t r s) m
 unfolding chan_call
-of_chan m S t (ChanClose c) s = of_close m c s _
-of_chan m S t (Send c v) s = of_send m t c v s _
-of_chan m S t (Recv keep c) s = of_recv m t keep c s _
+of_chan m S t r s = of_alternation m S t r s (alternation r)
 
 of_create : (m : List ℕ) (S : Setup) (program arg : ℕ) (s : State) (caller : Thread) → IsOf (create_thread S program arg s caller) m
 of_create m S program arg s caller = of_if m (is_no_program S program) _ _ tt (of_if m (is_full s) _ _ tt tt)
@@ -146,13 +165,13 @@ of_io m S t (IoProc k) s = of_make m k s _
 of_io m S t (IoRun k call) s = of_post m t k call s _
 of_io m S t (CloseIoProc k) s = of_close_ioproc m k s _
 
-of_served : (m : List ℕ) (S : Setup) (t : ℕ) (r : Request) (s : State) → IsToldAtOnce t r s m → IsOf (served S t r s) m
+of_served : (m : List ℕ) (S : Setup) (t : ℕ) (r : Request) (s : State) → IsToldAtOnce t r s.threads m → IsOf (served S t r s) m
 unfolding served
 of_served m S t (ThreadRequest r) s h = of_thread m S t r s h
 of_served m S t (ChanRequest r) s h = of_chan m S t r s
 of_served m S t (IoRequest r) s h = of_io m S t r s
 
-of_called : (m : List ℕ) (S : Setup) (p t : ℕ) (r : Request) (s : State) → IsToldAtOnce t r s m → IsOf (called S p t r s) m
+of_called : (m : List ℕ) (S : Setup) (p t : ℕ) (r : Request) (s : State) → IsToldAtOnce t r s.threads m → IsOf (called S p t r s) m
 unfolding called
 of_called m S p t r s h = of_if m (runs_there p (by_id s.threads t)) _ _ (of_served m S t r s h) tt
 
@@ -216,7 +235,7 @@ of_did m k effect s (Some stand.Closed) = tt
 -- the message of the reply to an event, as the state has it
 abbrev pub IsToldIn : Setup → Seat → Event → State → List ℕ → Type 0
 IsToldIn S (Proc p) Next s m = is_place S p ≡ true → IsOfPicked (pick (λ t. is_of p (by_id s.threads t)) s.line) s.threads m
-IsToldIn S (Proc p) (Call t r) s m = IsToldAtOnce t r s m
+IsToldIn S (Proc p) (Call t r) s m = IsToldAtOnce t r s.threads m
 IsToldIn S (Proc p) IoTake s m = Unit {0}
 IsToldIn S (Proc p) (IoDid effect) s m = Unit {0}
 IsToldIn S (IoSeat k) IoTake s m = IsOfPosted (by_id s.ioprocs k) m
@@ -253,16 +272,16 @@ next_picked p sched line (t ∷ part) m e h =
     rw f.picked (at_thread (by_id sched.threads t) m h)
 
 -- the message that was copied for the board is that of the state
-pub told_in : (board : Board) (line : List ℕ) (seat : Seat) (event : Event) (m : List ℕ) → IsUsable board line → IsTold seat event (state_of board []) board.sched m → IsToldIn board.setup seat event (state_of board line) m
-told_in board line (Proc p) Next m u h = λ at.
+pub told_in : (board : Board) (rest : Rest) (seat : Seat) (event : Event) (m : List ℕ) → IsUsable board rest → IsTold seat event board.sched (ioprocs_of board.desks.items) m → IsToldIn board.setup seat event (state_of board rest) m
+told_in board rest (Proc p) Next m u h = λ at.
     let places = u.places in
-    next_picked p board.sched line (line_of p board.sched) m (sym (u.parts.part p (place_from board.setup p at) (rw places (place_to board.setup p at)))) h
-told_in board line (Proc p) (Call t (ThreadRequest r)) m u h = h
-told_in board line (Proc p) (Call t (ChanRequest r)) m u h = h
-told_in board line (Proc p) (Call t (IoRequest r)) m u h = h
-told_in board line (Proc p) IoTake m u h = h
-told_in board line (Proc p) (IoDid effect) m u h = h
-told_in board line (IoSeat k) IoTake m u h = h
-told_in board line (IoSeat k) (Call t r) m u h = h
-told_in board line (IoSeat k) Next m u h = h
-told_in board line (IoSeat k) (IoDid effect) m u h = h
+    next_picked p board.sched rest.line (line_of p board.sched) m (sym (u.parts.lines.part p (place_from board.setup p at) (rw places (place_to board.setup p at)))) h
+told_in board rest (Proc p) (Call t (ThreadRequest r)) m u h = h
+told_in board rest (Proc p) (Call t (ChanRequest r)) m u h = h
+told_in board rest (Proc p) (Call t (IoRequest r)) m u h = h
+told_in board rest (Proc p) IoTake m u h = h
+told_in board rest (Proc p) (IoDid effect) m u h = h
+told_in board rest (IoSeat k) IoTake m u h = h
+told_in board rest (IoSeat k) (Call t r) m u h = h
+told_in board rest (IoSeat k) Next m u h = h
+told_in board rest (IoSeat k) (IoDid effect) m u h = h

@@ -4,11 +4,11 @@ use Rattle.std.specs.Prelude.{option_map, slice_get, nat_lt, nat_le, nat_eq, is_
 use Rattle.std.specs.List.{filter, list_any}
 use Rattle.p9_word.specs.declared.setup.Setup.{Setup}
 use Rattle.p9_word.specs.declared.trail.Reply.{Reply}
-use Rattle.p9_word.specs.declared.trail.Reply.TheVariants.{Stray, Over, Idle}
+use Rattle.p9_word.specs.declared.trail.Reply.TheVariants.{Stray, Over, Idle, Begin, Turn}
 use Rattle.p9_manual.specs.declared.state.Place.{Place as Stand}
 use Rattle.p9_manual.specs.declared.state.Place.TheVariants as stand
 use Rattle.p9_manual.specs.declared.state.Thread.{Thread}
-use Rattle.p9_manual.specs.State.{State, Outcome, by_id, pick, same}
+use Rattle.p9_manual.specs.State.{State, Outcome, by_id, pick, placed, same}
 use Rattle.p9_manual.specs.Places.{is_of, lives, lives_in, runs_in, runs_there}
 use Rattle.p9_manual.specs.Standing.{times}
 use Rattle.p9_manual.specs.Next.{is_place, is_over, started, turn, next_of, next_event, stuck}
@@ -18,8 +18,9 @@ use Rattle.p9_sched.specs.declared.turns.Ready.TheVariants.{New, Old}
 use Rattle.p9_sched.specs.Schedule.{Schedule, line_of, begun}
 use Rattle.p9_sched.specs.Turns.{ready_at, ready_of, turn_of, next_in}
 use Rattle.p9_machine.specs.declared.board.Board.{Board}
-use Rattle.p9_machine.specs.Board.{state_of, AreParts, IsUsable, Gives}
+use Rattle.p9_machine.specs.Board.{Rest, state_of, AreLines, AreParts, IsUsable, Gives}
 use Rattle.p9_machine.specs.Turns.{turn_told}
+use Rattle.p9_machine.proofs.Rests.{parts_sched}
 use Rattle.p9_machine.proofs.Parts.{FirstOf, first_of, none_picked, parts_begun, changed_length, times_any}
 
 passes_if : (b : Bool) (p : ℕ → Bool) (x t : ℕ) (xs rest : List ℕ) → p x ≡ b → cond b (x ∷ xs) xs ≡ t ∷ rest → (xs ≡ t ∷ rest → p t ≡ true) → p t ≡ true
@@ -32,8 +33,8 @@ first_passes p t rest [] h = absurd (cc h)
 first_passes p t rest (x ∷ line) h = passes_if (p x) p x t (filter p line) rest refl h (first_passes p t rest line)
 
 -- a reply that makes no entry leaves the board as it is
-pub unmoved : (board : Board) (line : List ℕ) (r : Reply) → makes_entry r ≡ false → IsUsable board line → Gives board line (same r (state_of board line)) r board
-unmoved board line r quiet u = record {
+pub unmoved : (board : Board) (rest : Rest) (r : Reply) → makes_entry r ≡ false → IsUsable board rest → Gives board rest (same r (state_of board rest)) r board
+unmoved board rest r quiet u = record {
   reply_is = refl;
   stands = rw quiet (record { state = refl; parts = u.parts });
   setup = refl;
@@ -43,8 +44,8 @@ unmoved board line r quiet u = record {
 }
 
 -- the run is at its end, since it is stuck
-pub stuck_now : (board : Board) (line : List ℕ) (b : Bool) → b ≡ true → IsUsable board line → Gives board line (if b then stuck (state_of board line) else same Idle (state_of board line)) (stuck (state_of board line)).reply (record board { over = true })
-stuck_now board line true e u = record {
+pub stuck_now : (board : Board) (rest : Rest) (b : Bool) → b ≡ true → IsUsable board rest → Gives board rest (if b then stuck (state_of board rest) else same Idle (state_of board rest)) (stuck (state_of board rest)).reply (record board { over = true })
+stuck_now board rest true e u = record {
   reply_is = refl;
   stands = record { state = refl; parts = u.parts };
   setup = refl;
@@ -52,60 +53,57 @@ stuck_now board line true e u = record {
   rooms = refl;
   calls = omega arith;
 }
-stuck_now board line false e u = absurd (cc e)
+stuck_now board rest false e u = absurd (cc e)
 
-pub idle_now : (board : Board) (line : List ℕ) (b : Bool) → b ≡ false → IsUsable board line → Gives board line (if b then stuck (state_of board line) else same Idle (state_of board line)) Idle board
-idle_now board line true e u = absurd (cc e)
-idle_now board line false e u = unmoved board line Idle refl u
+pub idle_now : (board : Board) (rest : Rest) (b : Bool) → b ≡ false → IsUsable board rest → Gives board rest (if b then stuck (state_of board rest) else same Idle (state_of board rest)) Idle board
+idle_now board rest true e u = absurd (cc e)
+idle_now board rest false e u = unmoved board rest Idle refl u
 
--- a thread of this place, which was the first of its proc's line, runs
-at_stand : (board : Board) (line others : List ℕ) (p t program arg : ℕ) (ready : Ready) (pl : Stand) → AreParts (begun p t board.sched) others → Some ready ≡ ready_at t program arg pl → Gives board line (turn t (record (state_of board line) { line = others }) (Some (program, arg, pl))) (turn_told ready) (record board { sched = begun p t board.sched })
-at_stand board line others p t program arg ready stand.New h e =
+-- a thread that was the first of its proc's line runs, and is told so
+runs_now : (board : Board) (rest : Rest) (others : List ℕ) (p t : ℕ) (told r : Reply) → AreParts board rest → AreLines (begun p t board.sched) others → told ≡ r → makes_entry r ≡ true → Gives board rest (record { reply = r; state = record (state_of board rest) { threads = placed t stand.Running board.sched.threads; line = others } }) told (record board { sched = begun p t board.sched })
+runs_now board rest others p t told r parts lines e makes = record {
+  reply_is = e;
+  stands = rw makes (record { state = refl; parts = parts_sched board (begun p t board.sched) rest others lines parts });
+  setup = refl;
+  places = changed_length _ _ _;
+  rooms = refl;
+  calls = omega arith;
+}
+
+-- one of this place
+at_stand : (board : Board) (rest : Rest) (others : List ℕ) (p t program arg : ℕ) (ready : Ready) (pl : Stand) → AreParts board rest → AreLines (begun p t board.sched) others → Some ready ≡ ready_at t program arg pl → Gives board rest (turn t (record (state_of board rest) { line = others }) (Some (program, arg, pl))) (turn_told ready) (record board { sched = begun p t board.sched })
+at_stand board rest others p t program arg ready stand.New h lines e =
     let r : ready ≡ New t program arg = cc in
-    record {
-      reply_is = ap turn_told r;
-      stands = record { state = refl; parts = h };
-      setup = refl;
-      places = changed_length _ _ _;
-      rooms = refl;
-      calls = omega arith;
-    }
-at_stand board line others p t program arg ready (stand.Ready a) h e =
+    runs_now board rest others p t (turn_told ready) (Begin t program arg) h lines (ap turn_told r) refl
+at_stand board rest others p t program arg ready (stand.Ready a) h lines e =
     let r : ready ≡ Old t a = cc in
-    record {
-      reply_is = ap turn_told r;
-      stands = record { state = refl; parts = h };
-      setup = refl;
-      places = changed_length _ _ _;
-      rooms = refl;
-      calls = omega arith;
-    }
-at_stand board line others p t program arg ready stand.Running h e = absurd (cc e)
-at_stand board line others p t program arg ready stand.Waiting h e = absurd (cc e)
-at_stand board line others p t program arg ready stand.Ended h e = absurd (cc e)
+    runs_now board rest others p t (turn_told ready) (Turn t a) h lines (ap turn_told r) refl
+at_stand board rest others p t program arg ready stand.Running h lines e = absurd (cc e)
+at_stand board rest others p t program arg ready stand.Waiting h lines e = absurd (cc e)
+at_stand board rest others p t program arg ready stand.Ended h lines e = absurd (cc e)
 
-at_thread : (board : Board) (line rest : List ℕ) (p t : ℕ) (ready : Ready) (o : Option Thread) → 1 ≤ p → by_id board.sched.threads t ≡ o → is_of p o ≡ true → line_of p board.sched ≡ t ∷ rest → (f : FirstOf (λ u. is_of p (by_id board.sched.threads u)) t rest line) → AreParts board.sched line → Some ready ≡ ready_of t o → Gives board line (turn t (record (state_of board line) { line = f.others }) (option_map started o)) (turn_told ready) (record board { sched = begun p t board.sched })
-at_thread board line rest p t ready None a at mine first f h e = absurd (cc e)
-at_thread board line rest p t ready (Some thread) a at mine first f h e =
+at_thread : (board : Board) (rest : Rest) (left : List ℕ) (p t : ℕ) (ready : Ready) (o : Option Thread) → 1 ≤ p → by_id board.sched.threads t ≡ o → is_of p o ≡ true → line_of p board.sched ≡ t ∷ left → (f : FirstOf (λ u. is_of p (by_id board.sched.threads u)) t left rest.line) → AreParts board rest → Some ready ≡ ready_of t o → Gives board rest (turn t (record (state_of board rest) { line = f.others }) (option_map started o)) (turn_told ready) (record board { sched = begun p t board.sched })
+at_thread board rest left p t ready None a at mine first f h e = absurd (cc e)
+at_thread board rest left p t ready (Some thread) a at mine first f h e =
     let proc : thread.proc_no ≡ p = search (rules, tests) in
-    at_stand board line f.others p t thread.program thread.arg ready thread.place (parts_begun p t rest line board.sched thread a at proc first f h) e
+    at_stand board rest f.others p t thread.program thread.arg ready thread.place h (parts_begun p t left rest.line board.sched thread a at proc first f h.lines) e
 
-turned_by : (board : Board) (line part : List ℕ) (p : ℕ) (ready : Ready) (n : Schedule) → 1 ≤ p → line_of p board.sched ≡ part → filter (λ u. is_of p (by_id board.sched.threads u)) line ≡ part → AreParts board.sched line → (Some ready, n) ≡ turn_of p board.sched part → Gives board line (next_of (state_of board line) (pick (λ u. is_of p (by_id board.sched.threads u)) line)) (turn_told ready) (record board { sched = n })
-turned_by board line [] p ready n a first mine h e = absurd (cc (ap (λ (x : Option Ready × Schedule). x.0) e))
-turned_by board line (t ∷ rest) p ready n a first mine h e =
-    let f = first_of (λ u. is_of p (by_id board.sched.threads u)) t rest line mine in
-    let passes = first_passes (λ u. is_of p (by_id board.sched.threads u)) t rest line mine in
+turned_by : (board : Board) (rest : Rest) (part : List ℕ) (p : ℕ) (ready : Ready) (n : Schedule) → 1 ≤ p → line_of p board.sched ≡ part → filter (λ u. is_of p (by_id board.sched.threads u)) rest.line ≡ part → AreParts board rest → (Some ready, n) ≡ turn_of p board.sched part → Gives board rest (next_of (state_of board rest) (pick (λ u. is_of p (by_id board.sched.threads u)) rest.line)) (turn_told ready) (record board { sched = n })
+turned_by board rest [] p ready n a first mine h e = absurd (cc (ap (λ (x : Option Ready × Schedule). x.0) e))
+turned_by board rest (t ∷ left) p ready n a first mine h e =
+    let f = first_of (λ u. is_of p (by_id board.sched.threads u)) t left rest.line mine in
+    let passes = first_passes (λ u. is_of p (by_id board.sched.threads u)) t left rest.line mine in
     let turn_is : Some ready ≡ ready_of t (by_id board.sched.threads t) = ap (λ (x : Option Ready × Schedule). x.0) e in
     let new_is : n ≡ begun p t board.sched = ap (λ (x : Option Ready × Schedule). x.1) e in
-    rw (f.picked, new_is) (at_thread board line rest p t ready (by_id board.sched.threads t) a refl passes first f h turn_is)
+    rw (f.picked, new_is) (at_thread board rest left p t ready (by_id board.sched.threads t) a refl passes first f h turn_is)
 
 -- the first thread of a proc's line runs
-pub turned : (board : Board) (line : List ℕ) (p : ℕ) (ready : Ready) (n : Schedule) → 1 ≤ p → p ≤ length board.sched.lines → IsUsable board line → (Some ready, n) ≡ next_in p board.sched → Gives board line (next_of (state_of board line) (pick (λ u. is_of p (by_id board.sched.threads u)) line)) (turn_told ready) (record board { sched = n })
-turned board line p ready n a b u e = turned_by board line (line_of p board.sched) p ready n a refl (sym (u.parts.part p a b)) u.parts e
+pub turned : (board : Board) (rest : Rest) (p : ℕ) (ready : Ready) (n : Schedule) → 1 ≤ p → p ≤ length board.sched.lines → IsUsable board rest → (Some ready, n) ≡ next_in p board.sched → Gives board rest (next_of (state_of board rest) (pick (λ u. is_of p (by_id board.sched.threads u)) rest.line)) (turn_told ready) (record board { sched = n })
+turned board rest p ready n a b u e = turned_by board rest (line_of p board.sched) p ready n a refl (sym (u.parts.lines.part p a b)) u.parts e
 
 -- where a proc's line is empty none of its threads is picked
-pub none_of : (board : Board) (line : List ℕ) (p : ℕ) → 1 ≤ p → p ≤ length board.sched.lines → IsUsable board line → line_of p board.sched ≡ [] → pick (λ u. is_of p (by_id board.sched.threads u)) line ≡ None
-none_of board line p a b u e = none_picked (λ u. is_of p (by_id board.sched.threads u)) line (sym (u.parts.part p a b) ∙ e)
+pub none_of : (board : Board) (rest : Rest) (p : ℕ) → 1 ≤ p → p ≤ length board.sched.lines → IsUsable board rest → line_of p board.sched ≡ [] → pick (λ u. is_of p (by_id board.sched.threads u)) rest.line ≡ None
+none_of board rest p a b u e = none_picked (λ u. is_of p (by_id board.sched.threads u)) rest.line (sym (u.parts.lines.part p a b) ∙ e)
 
 not_above : (n : ℕ) → nat_eq n 0 ≡ not (nat_lt 0 n)
 not_above zero = refl
@@ -162,7 +160,7 @@ none_left p s n e h =
     let at : next_in p s ≡ (None, s) = ap (turn_of p s) e in
     ap (λ (x : Option Ready × Schedule). x.1) (h ∙ at)
 
-pub rests : (board : Board) (line : List ℕ) (o : Option (ℕ × List ℕ)) (n : Schedule) (r : Reply) (new : Board) → n ≡ board.sched → o ≡ None → (IsUsable (record board { sched = n }) line → Gives (record board { sched = n }) line (next_of (state_of (record board { sched = n }) line) None) r new) → IsUsable board line → Gives board line (next_of (state_of board line) o) r new
-rests board line o n r new same none f u =
-    let g = subst (λ (m : Schedule). IsUsable (record board { sched = m }) line → Gives (record board { sched = m }) line (next_of (state_of (record board { sched = m }) line) None) r new) same f in
+pub stuck_by : (board : Board) (rest : Rest) (o : Option (ℕ × List ℕ)) (n : Schedule) (r : Reply) (new : Board) → n ≡ board.sched → o ≡ None → (IsUsable (record board { sched = n }) rest → Gives (record board { sched = n }) rest (next_of (state_of (record board { sched = n }) rest) None) r new) → IsUsable board rest → Gives board rest (next_of (state_of board rest) o) r new
+stuck_by board rest o n r new same none f u =
+    let g = subst (λ (m : Schedule). IsUsable (record board { sched = m }) rest → Gives (record board { sched = m }) rest (next_of (state_of (record board { sched = m }) rest) None) r new) same f in
     rw none (g u)

@@ -8,3 +8,4 @@ pub mod Ready
 pub mod Shown
 pub mod Turns
 pub mod Waits
+pub mod Wakes

@@ -40,7 +40,7 @@ fn copy_io_answer(answer: &IoAnswer, message: Msg) -> IoAnswer
 }
 
 /// A copy of an answer, with this copy of its message.
-fn copy_answer(answer: &Answer, message: Msg) -> Answer
+pub(crate) fn copy_answer(answer: &Answer, message: Msg) -> Answer
     requires { IsOfAnswer answer.now message }
     ensures { result ≡ answer.now }
 {
@@ -51,6 +51,13 @@ fn copy_answer(answer: &Answer, message: Msg) -> Answer
             from: *from,
             msg: message,
         },
+        Answer::Index { err, i, from, .. } => Answer::Index {
+            err: *err,
+            i: *i,
+            from: *from,
+            msg: message,
+        },
+        Answer::NoBlock => Answer::NoBlock,
         Answer::Closed => Answer::Closed,
         Answer::Number(n) => Answer::Number(*n),
         Answer::Minus => Answer::Minus,

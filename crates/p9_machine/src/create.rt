@@ -1,7 +1,7 @@
-ghost use Rattle.std.specs.Prelude.{ℕ, ◌≡◌, List};
+ghost use Rattle.std.specs.Prelude.{ℕ, ◌≡◌};
 ghost use Rattle.p9_manual.specs.Create.{fresh, is_no_program, create_thread, create_proc};
 ghost use Rattle.p9_sched.specs.Schedule.{IsPlace};
-ghost use Rattle.p9_machine.specs.Board.{state_of, HasRoom, IsUsable, IsRunning, Gives};
+ghost use Rattle.p9_machine.specs.Board.{Rest, state_of, HasRoom, IsUsable, IsRunning, Gives};
 
 use crate::board::Board;
 use p9_word::{Answer, Reply, Setup, Tid};
@@ -16,7 +16,7 @@ fn is_no_program(setup: &Setup, program: u32) -> bool
 pub(crate) fn create_thread(board: &mut Board, p: u32, group: u32, program: u32, arg: u64) -> Reply
     requires room { HasRoom board.old }
     requires place { IsPlace p board.old.sched }
-    ensures { (line : List ℕ) → IsUsable board.old line → Gives board.old line (create_thread board.old.setup program arg (state_of board.old line) (fresh p 0 0 group)) result board.new }
+    ensures { (rest : Rest) → IsUsable board.old rest → Gives board.old rest (create_thread board.old.setup program arg (state_of board.old rest) (fresh p 0 0 group)) result board.new }
 {
     if is_no_program(&board.setup, program) {
         return Reply::Now(Answer::Bad);
@@ -31,7 +31,7 @@ pub(crate) fn create_thread(board: &mut Board, p: u32, group: u32, program: u32,
 pub(crate) fn create_proc(board: &mut Board, t: Tid, group: u32, program: u32, arg: u64) -> Reply
     requires room { HasRoom board.old }
     requires runs { IsRunning t board.old.sched }
-    ensures { (line : List ℕ) (p : ℕ) → IsUsable board.old line → Gives board.old line (create_proc board.old.setup t program arg (state_of board.old line) (fresh p 0 0 group)) result board.new }
+    ensures { (rest : Rest) (p : ℕ) → IsUsable board.old rest → Gives board.old rest (create_proc board.old.setup t program arg (state_of board.old rest) (fresh p 0 0 group)) result board.new }
 {
     if is_no_program(&board.setup, program) {
         return Reply::Now(Answer::Bad);

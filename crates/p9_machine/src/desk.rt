@@ -1,9 +1,9 @@
-ghost use Rattle.std.specs.Prelude.{◌≡◌, ◌≤◌, [], length, true, false, OnOk, if◌then◌else◌};
+ghost use Rattle.std.specs.Prelude.{◌≡◌, ◌≤◌, [], length, true, false};
 ghost use Rattle.p9_manual.specs.Ends.{let_go, let_all_go};
 ghost use Rattle.p9_manual.specs.Ioprocs.{effect_answer};
 ghost use Rattle.p9_manual.specs.Effects.{got};
 ghost use Rattle.p9_manual.specs.declared.state.Ioproc.TheVariants.{Idle, Unmade};
-ghost use Rattle.p9_machine.specs.Calls.{begun, begun_room, begun_weight, here_room, call_length};
+ghost use Rattle.p9_machine.specs.Calls.{begun, begun_room, here_room, call_length};
 
 use p9_manual::Ioproc;
 use p9_word::{Effect, IoAnswer, IoCall, Msg, NoMemory, Room, Tid};

@@ -1,10 +1,11 @@
-ghost use Rattle.std.specs.Prelude.{ℕ, ◌≡◌, ◌≤◌, List, length};
+ghost use Rattle.std.specs.Prelude.{◌≡◌, ◌+◌, ◌≤◌, length};
 ghost use Rattle.p9_word.specs.declared.trail.Event.TheVariants.{IoDid};
 ghost use Rattle.p9_word.specs.declared.trail.Seat.TheVariants.{Io as IoSeat};
 ghost use Rattle.p9_manual.specs.Ioprocs.{io_event};
 ghost use Rattle.p9_manual.specs.Step.{makes_entry, step};
 ghost use Rattle.p9_manual.specs.History.{with_entry};
-ghost use Rattle.p9_machine.specs.Board.{state_of, calls_of, settled, IsBoard, IsUsable, Stands};
+ghost use Rattle.p9_machine.specs.Board.{Rest, state_of, calls_of, settled, IsBoard, IsUsable, Stands};
+ghost use Rattle.p9_machine.specs.Copies.{IsOfReply};
 ghost use Rattle.p9_machine.specs.Desks.{rooms_of};
 ghost use Rattle.p9_machine.specs.Ready.{HasMemory, HasEntries};
 ghost use Rattle.p9_machine.specs.Shown.{rooms_after};
@@ -14,8 +15,21 @@ use crate::copies::{copy_reply, makes_entry};
 use crate::ioprocs::did_call;
 use crate::reserve::Reserved;
 use crate::step::outcome;
-use p9_word::{Effect, Entry, Event, Reply, Room, Seat};
+use p9_word::{Effect, Entry, Event, Msg, Reply, Room, Seat};
 use std::alloc::Global;
+
+/// Makes the entry of an event with this reply, if one is made. `told` is a copy of the reply's message.
+fn put_entry(entries: &mut Room<Entry>, seat: Seat, event: Event, reply: &Reply, told: Msg)
+    requires told { IsOfReply reply.now told }
+    requires room { 1 ≤ entries.old.spare }
+    ensures entries { entries.new.items ≡ with_entry entries.old.items seat event reply.now }
+    ensures spare { entries.old.spare ≤ entries.new.spare + 1 }
+{
+    if makes_entry(reply) {
+        let reply = copy_reply(reply, told);
+        entries.push(Entry { seat, event, reply });
+    }
+}
 
 /// One event that there is memory for: its reply, and its entry if one is made.
 #[tactic(auto, unfolding(p9_manual::specs::Step::step))]
@@ -31,8 +45,8 @@ pub(crate) fn enter(
     requires memory { HasMemory board.old reserved }
     requires room { HasEntries board.old entries.old }
     requires counted { board.old.entries ≡ length entries.old.items }
-    ensures reply { (line : List ℕ) → IsUsable board.old line → result ≡ (step board.old.setup reserved.seat event (state_of board.old line)).reply }
-    ensures board { (line : List ℕ) → IsUsable board.old line → Stands board.new (settled (makes_entry result) (state_of board.old line) (step board.old.setup reserved.seat event (state_of board.old line)).state) }
+    ensures reply { (rest : Rest) → IsUsable board.old rest → result ≡ (step board.old.setup reserved.seat event (state_of board.old rest)).reply }
+    ensures board { (rest : Rest) → IsUsable board.old rest → Stands board.new (settled (makes_entry result) (state_of board.old rest) (step board.old.setup reserved.seat event (state_of board.old rest)).state) }
     ensures places { length board.new.sched.lines ≡ length board.old.sched.lines }
     ensures entries { entries.new.items ≡ with_entry entries.old.items reserved.seat event result }
     ensures setup { board.new.setup ≡ board.old.setup }
@@ -46,14 +60,7 @@ pub(crate) fn enter(
         told,
     } = reserved;
     let reply = outcome(board, seat, event, spares, alloc);
-    if makes_entry(&reply) {
-        let reply = copy_reply(&reply, told);
-        entries.push(Entry {
-            seat,
-            event: copy,
-            reply,
-        });
-    }
+    put_entry(entries, seat, copy, &reply, told);
     board.entries = entries.as_slice().len() as u64;
     reply
 }
@@ -70,8 +77,8 @@ fn record_at(
     requires board { IsBoard board.old }
     requires spare { calls_of board.old ≤ entries.old.spare }
     requires counted { board.old.entries ≡ length entries.old.items }
-    ensures reply { (line : List ℕ) → IsUsable board.old line → result ≡ (step board.old.setup (IoSeat k) (IoDid effect) (state_of board.old line)).reply }
-    ensures board { (line : List ℕ) → IsUsable board.old line → Stands board.new (settled (makes_entry result) (state_of board.old line) (step board.old.setup (IoSeat k) (IoDid effect) (state_of board.old line)).state) }
+    ensures reply { (rest : Rest) → IsUsable board.old rest → result ≡ (step board.old.setup (IoSeat k) (IoDid effect) (state_of board.old rest)).reply }
+    ensures board { (rest : Rest) → IsUsable board.old rest → Stands board.new (settled (makes_entry result) (state_of board.old rest) (step board.old.setup (IoSeat k) (IoDid effect) (state_of board.old rest)).state) }
     ensures places { length board.new.sched.lines ≡ length board.old.sched.lines }
     ensures entries { entries.new.items ≡ with_entry entries.old.items (IoSeat k) (IoDid effect) result }
     ensures setup { board.new.setup ≡ board.old.setup }
@@ -102,8 +109,8 @@ pub(crate) fn record(
     requires board { IsBoard board.old }
     requires spare { calls_of board.old ≤ entries.old.spare }
     requires counted { board.old.entries ≡ length entries.old.items }
-    ensures reply { (line : List ℕ) → IsUsable board.old line → result ≡ (step board.old.setup seat (IoDid effect) (state_of board.old line)).reply }
-    ensures board { (line : List ℕ) → IsUsable board.old line → Stands board.new (settled (makes_entry result) (state_of board.old line) (step board.old.setup seat (IoDid effect) (state_of board.old line)).state) }
+    ensures reply { (rest : Rest) → IsUsable board.old rest → result ≡ (step board.old.setup seat (IoDid effect) (state_of board.old rest)).reply }
+    ensures board { (rest : Rest) → IsUsable board.old rest → Stands board.new (settled (makes_entry result) (state_of board.old rest) (step board.old.setup seat (IoDid effect) (state_of board.old rest)).state) }
     ensures places { length board.new.sched.lines ≡ length board.old.sched.lines }
     ensures entries { entries.new.items ≡ with_entry entries.old.items seat (IoDid effect) result }
     ensures setup { board.new.setup ≡ board.old.setup }

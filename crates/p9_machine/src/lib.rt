@@ -4,6 +4,7 @@
 //! gives the reply and makes the entry. What an ioproc tells needs no reserve of its own.
 #![tactic(auto)]
 
+mod alternation;
 mod begin;
 mod board;
 mod chans;
@@ -14,13 +15,13 @@ mod desks;
 mod ends;
 mod entries;
 mod ioprocs;
-mod lists;
 mod machine;
 mod next;
 mod reserve;
 mod spares;
 mod step;
 mod threads;
+mod wakes;
 
 pub use machine::Machine;
 

@@ -1,11 +1,11 @@
-ghost use Rattle.std.specs.Prelude.{ℕ, ◌≡◌, List, None, false};
+ghost use Rattle.std.specs.Prelude.{◌≡◌, None, false};
 ghost use Rattle.std.specs.List.{list_any};
 ghost use Rattle.p9_manual.specs.State.{by_id, pick};
 ghost use Rattle.p9_manual.specs.Places.{has_call, runs_in, is_of};
 ghost use Rattle.p9_manual.specs.Stuck.{is_stuck};
 ghost use Rattle.p9_manual.specs.Next.{is_place, is_over, next_of, next_event};
 ghost use Rattle.p9_sched.specs.Schedule.{IsPlace};
-ghost use Rattle.p9_machine.specs.Board.{state_of, IsBoard, IsUsable, Gives};
+ghost use Rattle.p9_machine.specs.Board.{Rest, state_of, IsBoard, IsUsable, Gives};
 ghost use Rattle.p9_machine.specs.Desks.{ioprocs_of};
 ghost use Rattle.p9_machine.specs.Turns.{turn_told};
 
@@ -35,7 +35,7 @@ fn some_has_call(desks: &[Desk]) -> bool
 
 /// Whether threads live, and none of them can ever run again.
 fn is_stuck(board: &Board) -> bool
-    ensures { (line : List ℕ) → result ≡ is_stuck (state_of board.now line) }
+    ensures { (rest : Rest) → result ≡ is_stuck (state_of board.now rest) }
 {
     board.sched.has_living()
         && !board.sched.has_running()
@@ -53,7 +53,7 @@ pub(crate) fn is_place(setup: &Setup, p: u32) -> bool
 /// Whether there will be nothing to run in proc p.
 fn is_over(board: &Board, p: u32) -> bool
     requires { IsPlace p board.now.sched }
-    ensures { (line : List ℕ) → result ≡ is_over p (state_of board.now line) }
+    ensures { (rest : Rest) → result ≡ is_over p (state_of board.now rest) }
 {
     if board.over {
         return true;
@@ -76,8 +76,8 @@ fn told_turn(ready: Ready) -> Reply
 }
 
 /// Where no thread of a proc is ready, the run is stuck or there is nothing to do now.
-fn rest(board: &mut Board) -> Reply
-    ensures { (line : List ℕ) → IsUsable board.old line → Gives board.old line (next_of (state_of board.old line) None) result board.new }
+fn stuck_or_idle(board: &mut Board) -> Reply
+    ensures { (rest : Rest) → IsUsable board.old rest → Gives board.old rest (next_of (state_of board.old rest) None) result board.new }
 {
     if is_stuck(board) {
         board.over = true;
@@ -91,11 +91,11 @@ fn rest(board: &mut Board) -> Reply
 fn run_next(board: &mut Board, p: u32) -> Reply
     requires place { IsPlace p board.old.sched }
     requires idle { list_any (runs_in p) board.old.sched.threads ≡ false }
-    ensures { (line : List ℕ) → IsUsable board.old line → Gives board.old line (next_of (state_of board.old line) (pick (λ t. is_of p (by_id board.old.sched.threads t)) line)) result board.new }
+    ensures { (rest : Rest) → IsUsable board.old rest → Gives board.old rest (next_of (state_of board.old rest) (pick (λ t. is_of p (by_id board.old.sched.threads t)) rest.line)) result board.new }
 {
     match board.sched.next_of(p) {
         Some(ready) => told_turn(ready),
-        None => rest(board),
+        None => stuck_or_idle(board),
     }
 }
 
@@ -103,7 +103,7 @@ fn run_next(board: &mut Board, p: u32) -> Reply
 #[tactic(auto, unfolding(p9_manual::specs::Next::next_event))]
 pub(crate) fn next_event(board: &mut Board, p: u32) -> Reply
     requires { IsBoard board.old }
-    ensures { (line : List ℕ) → IsUsable board.old line → Gives board.old line (next_event board.old.setup p (state_of board.old line)) result board.new }
+    ensures { (rest : Rest) → IsUsable board.old rest → Gives board.old rest (next_event board.old.setup p (state_of board.old rest)) result board.new }
 {
     if !is_place(&board.setup, p) {
         return Reply::Stray;

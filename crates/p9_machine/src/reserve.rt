@@ -1,23 +1,23 @@
-ghost use Rattle.std.specs.Prelude.{ℕ, ◌≡◌, [], List, IfOk, length};
-ghost use Rattle.p9_manual.specs.State.{by_id, pick};
-ghost use Rattle.p9_manual.specs.Chans.{sends_on, unfreed};
-ghost use Rattle.p9_machine.specs.Copies.{IsOfCall, IsOfAnswer, IsOfIoAnswer, IsOfNext, IsOfPosted, IsInPlaceOf, IsForSend, IsForRecv, IsForChan, IsForIo, IsForThread, IsNameOf, IsForRequest, IsToldAtOnce, IsForEvent, IsTold, value_sent};
+ghost use Rattle.std.specs.Prelude.{◌≡◌, IfOk, length};
+ghost use Rattle.p9_manual.specs.State.{by_id};
+ghost use Rattle.p9_machine.specs.Copies.{IsOfCall, IsOfAnswer, IsOfNext, IsOfPosted, IsForThread, IsNameOf, IsToldAtOnce, IsForEvent, IsTold};
 ghost use Rattle.p9_sched.specs.Turns.{answer_next};
-ghost use Rattle.p9_machine.specs.Board.{state_of, calls_of, AreParts};
+ghost use Rattle.p9_machine.specs.Board.{Rest, state_of, calls_of, AreParts};
 ghost use Rattle.p9_machine.specs.Desks.{ioprocs_of, rooms_of};
-ghost use Rattle.p9_machine.specs.Ready.{HasMemory, HasBuffersFor, room_needed};
+ghost use Rattle.p9_machine.specs.Ready.{HasMemory, HasMemoryIn, room_needed};
 
+use crate::alternation::chan_memory;
 use crate::board::Board;
 use crate::desk::Desk;
 use crate::desks::{find_ioproc, taken_room};
-use crate::lists::{find_channel, first_sender};
 use crate::next::is_place;
 use crate::spares::Spares;
 use crate::threads::is_made;
-use p9_manual::{Channel, Ioproc, Waiter};
+use p9_alt::{Alts, Wake};
+use p9_manual::Ioproc;
 use p9_sched::Sched;
 use p9_word::{
-    Answer, ChanReq, Datum, Event, IoAnswer, IoCall, IoReq, Msg, NoMemory, Request, Room, Seat,
+    AltEntry, Answer, Datum, Event, IoAnswer, IoCall, Msg, NoMemory, Request, Room, Seat, Seq,
     ThreadReq, Tid,
 };
 use std::alloc::Global;
@@ -33,50 +33,6 @@ pub(crate) struct Reserved {
     pub(crate) spares: Spares,
     /// The message of the entry's copy of the reply.
     pub(crate) told: Msg,
-}
-
-/// As many zeros as an element has, where there is no value.
-fn zeros_for(value: &Option<Msg>, elsize: u32, alloc: Global) -> Result<Msg, NoMemory>
-    ensures { IfOk result (λ m. IsInPlaceOf value.now elsize m) }
-{
-    match value {
-        Some(_) => Ok(Msg::new()),
-        None => {
-            let zeros = vec![in alloc; 0u8; elsize as usize]?;
-            Msg::from_slice(alloc, zeros.as_slice())
-        }
-    }
-}
-
-/// As many zeros as an element has, where the request sends no value.
-fn zeros_sent(request: &Request, elsize: u32, alloc: Global) -> Result<Msg, NoMemory>
-    ensures { IfOk result (λ m. IsInPlaceOf (value_sent request.now) elsize m) }
-{
-    match request {
-        Request::Chan(ChanReq::Send { value, .. }) => zeros_for(value, elsize, alloc),
-        _ => Ok(Msg::new()),
-    }
-}
-
-fn for_send(chans: &[Channel], c: u32, value: &Option<Msg>, alloc: Global) -> Result<Msg, NoMemory>
-    ensures { IfOk result (λ m. IsForSend value.now (unfreed (by_id chans.now c)) m) }
-{
-    match find_channel(chans, c) {
-        Some(chan) => zeros_for(value, chan.elsize, alloc),
-        None => Ok(Msg::new()),
-    }
-}
-
-fn for_recv(chans: &[Channel], waits: &[Waiter], c: u32, alloc: Global) -> Result<Msg, NoMemory>
-    ensures { IfOk result (λ m. IsForRecv (unfreed (by_id chans.now c)) (pick (λ w. sends_on c w.request) waits.now) m) }
-{
-    let Some(chan) = find_channel(chans, c) else {
-        return Ok(Msg::new());
-    };
-    match first_sender(waits, c) {
-        Some(at) => zeros_sent(&waits[at].request, chan.elsize, alloc),
-        None => Ok(Msg::new()),
-    }
 }
 
 /// A copy of the message of a call.
@@ -110,22 +66,6 @@ fn for_thread(sched: &Sched, t: Tid, request: &ThreadReq, alloc: Global) -> Resu
     }
 }
 
-fn for_request(board: &Board, t: Tid, request: &Request, alloc: Global) -> Result<Msg, NoMemory>
-    ensures { IfOk result (λ m. IsForRequest t request.now (state_of board.now []) m) }
-{
-    match request {
-        Request::Thread(request) => for_thread(&board.sched, t, request, alloc),
-        Request::Chan(ChanReq::Send { chan, value }) => {
-            for_send(&board.chans, *chan, value, alloc)
-        }
-        Request::Chan(ChanReq::Recv { chan, .. }) => {
-            for_recv(&board.chans, &board.waits, *chan, alloc)
-        }
-        Request::Io(IoReq::IoRun { call, .. }) => message_of_call(call),
-        _ => Ok(Msg::new()),
-    }
-}
-
 /// A copy of the message of the call that is posted at ioproc k.
 fn message_posted(desks: &[Desk], k: u32) -> Result<Msg, NoMemory>
     ensures { IfOk result (λ m. IsOfPosted (by_id (ioprocs_of desks.now) k) m) }
@@ -141,7 +81,7 @@ fn message_of_answer(answer: &Answer) -> Result<Msg, NoMemory>
     ensures { IfOk result (λ m. IsOfAnswer answer.now m) }
 {
     match answer {
-        Answer::Got { msg, .. } => msg.copy(),
+        Answer::Got { msg, .. } | Answer::Index { msg, .. } => msg.copy(),
         Answer::Text(text) => text.copy(),
         Answer::Io(IoAnswer::Bytes(bytes)) => bytes.copy(),
         _ => Ok(Msg::new()),
@@ -162,6 +102,16 @@ fn message_of_next(board: &Board, p: u32) -> Result<Msg, NoMemory>
     }
 }
 
+/// The message of an answer at once to a request of thread t.
+fn told_at_once(sched: &Sched, t: Tid, request: &Request, alloc: Global) -> Result<Msg, NoMemory>
+    ensures { IfOk result (λ m. IsToldAtOnce t request.now sched.now.threads m) }
+{
+    match request {
+        Request::Thread(request) => for_thread(sched, t, request, alloc),
+        _ => Ok(Msg::new()),
+    }
+}
+
 /// The message that the state or the reply needs beside those of the event.
 pub(crate) fn extra_for(
     board: &Board,
@@ -169,21 +119,11 @@ pub(crate) fn extra_for(
     event: &Event,
     alloc: Global,
 ) -> Result<Msg, NoMemory>
-    ensures { IfOk result (λ m. IsForEvent seat event.now (state_of board.now []) m) }
+    ensures { IfOk result (λ m. IsForEvent seat event.now board.now.sched.threads (ioprocs_of board.now.desks.items) m) }
 {
     match (seat, event) {
-        (Seat::Proc(_), Event::Call(t, request)) => for_request(board, *t, request, alloc),
+        (Seat::Proc(_), Event::Call(t, request)) => told_at_once(&board.sched, *t, request, alloc),
         (Seat::Io(k), Event::IoTake) => message_posted(&board.desks, k),
-        _ => Ok(Msg::new()),
-    }
-}
-
-/// The message of an answer at once to a request of thread t.
-fn told_at_once(board: &Board, t: Tid, request: &Request, alloc: Global) -> Result<Msg, NoMemory>
-    ensures { IfOk result (λ m. IsToldAtOnce t request.now (state_of board.now []) m) }
-{
-    match request {
-        Request::Thread(request) => for_thread(&board.sched, t, request, alloc),
         _ => Ok(Msg::new()),
     }
 }
@@ -196,10 +136,10 @@ pub(crate) fn told_for(
     alloc: Global,
 ) -> Result<Msg, NoMemory>
     requires { length board.now.sched.lines ≡ board.now.setup.places }
-    ensures { IfOk result (λ m. IsTold seat event.now (state_of board.now []) board.now.sched m) }
+    ensures { IfOk result (λ m. IsTold seat event.now board.now.sched (ioprocs_of board.now.desks.items) m) }
 {
     match (seat, event) {
-        (Seat::Proc(_), Event::Call(t, request)) => told_at_once(board, *t, request, alloc),
+        (Seat::Proc(_), Event::Call(t, request)) => told_at_once(&board.sched, *t, request, alloc),
         (Seat::Proc(p), Event::Next) => message_of_next(board, p),
         (Seat::Io(k), Event::IoTake) => message_posted(&board.desks, k),
         _ => Ok(Msg::new()),
@@ -216,22 +156,20 @@ fn room_for(board: &Board, seat: Seat, event: &Event) -> usize
     }
 }
 
-/// What an event needs beside its own.
-fn spares_for(board: &Board, seat: Seat, event: &Event, alloc: Global) -> Result<Spares, NoMemory>
-    ensures extra { IfOk result (λ s. IsForEvent seat event.now (state_of board.now []) s.extra) }
-    ensures buffers { IfOk result (HasBuffersFor seat event.now (ioprocs_of board.now.desks.items)) }
+/// The entries of the request of an event, if it is an alt, and room for who is woken. A refusal changes nothing.
+fn request_memory(
+    alts: &mut Alts,
+    event: &Event,
+    alloc: Global,
+) -> Result<(Seq<AltEntry>, Room<Wake>), NoMemory>
+    ensures chans { alts.new.channels.chans ≡ alts.old.channels.chans }
+    ensures waits { alts.new.waits ≡ alts.old.waits }
+    ensures memory { IfOk result (λ m. HasMemoryIn event.now m.0 m.1 alts.new) }
 {
-    let extra = extra_for(board, seat, event, alloc)?;
-    let room = room_for(board, seat, event);
-    let mut buffer = Room::new(alloc);
-    buffer.reserve(room)?;
-    let mut second = Room::new(alloc);
-    second.reserve(room)?;
-    Ok(Spares {
-        extra,
-        buffer,
-        second,
-    })
+    match event {
+        Event::Call(_, Request::Chan(request)) => chan_memory(alts, request, alloc),
+        _ => Ok((Seq::new(alloc), Room::new(alloc))),
+    }
 }
 
 /// Takes the memory on the board that an event needs, and the copies. A refusal changes nothing.
@@ -242,8 +180,8 @@ pub(crate) fn reserved_for(
     alloc: Global,
 ) -> Result<Reserved, NoMemory>
     requires { length board.old.sched.lines ≡ board.old.setup.places }
-    ensures state { (line : List ℕ) → state_of board.new line ≡ state_of board.old line }
-    ensures parts { (line : List ℕ) → AreParts board.old.sched line → AreParts board.new.sched line }
+    ensures state { (rest : Rest) → state_of board.new rest ≡ state_of board.old rest }
+    ensures parts { (rest : Rest) → AreParts board.old rest → AreParts board.new rest }
     ensures places { length board.new.sched.lines ≡ length board.old.sched.lines }
     ensures setup { board.new.setup ≡ board.old.setup }
     ensures rooms { rooms_of board.new.desks.items ≡ rooms_of board.old.desks.items }
@@ -253,12 +191,24 @@ pub(crate) fn reserved_for(
 {
     board.make_room()?;
     let copy = event.copied(alloc)?;
-    let spares = spares_for(board, seat, event, alloc)?;
+    let extra = extra_for(board, seat, event, alloc)?;
     let told = told_for(board, seat, event, alloc)?;
+    let room = room_for(board, seat, event);
+    let mut buffer = Room::new(alloc);
+    buffer.reserve(room)?;
+    let mut second = Room::new(alloc);
+    second.reserve(room)?;
+    let (entries, wakes) = request_memory(&mut board.alts, event, alloc)?;
     Ok(Reserved {
         seat,
         event: copy,
-        spares,
+        spares: Spares {
+            extra,
+            entries,
+            wakes,
+            buffer,
+            second,
+        },
         told,
     })
 }

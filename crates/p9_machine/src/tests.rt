@@ -10,10 +10,10 @@ use std::alloc::Global;
 use std::process::Abort;
 use std::test::Fail;
 
-const PROC: Seat = Seat::Proc(1);
+pub(crate) const PROC: Seat = Seat::Proc(1);
 
 /// A setup with so many threads, one channel with elements of four bytes, and so many files.
-fn setup(alloc: Global, threads: u32, files: u32) -> Result<Setup, NoMemory>
+pub(crate) fn setup(alloc: Global, threads: u32, files: u32) -> Result<Setup, NoMemory>
     ensures { IfOk result IsPlain }
 {
     let mut list = Room::new(alloc);
@@ -49,7 +49,7 @@ fn setup(alloc: Global, threads: u32, files: u32) -> Result<Setup, NoMemory>
 }
 
 /// One event with its memory, and the reply that it must get.
-fn happens(
+pub(crate) fn happens(
     rt: &impl Abort,
     machine: &mut Machine,
     seat: Seat,

@@ -1,9 +1,9 @@
-ghost use Rattle.std.specs.Prelude.{ℕ, ◌≡◌, ◌↔◌, IsTrue, List};
+ghost use Rattle.std.specs.Prelude.{◌≡◌, ◌↔◌, IsTrue};
 ghost use Rattle.p9_word.specs.declared.answer.Answer.TheVariants.{Done, Number, Text};
 ghost use Rattle.p9_manual.specs.State.{by_id, now, done};
 ghost use Rattle.p9_manual.specs.Threads.{thread_call, in_group, with_word, with_changed, is_no_name, set_name, pid_of, word_of as proc_word_of, set_proc_word};
-ghost use Rattle.p9_sched.specs.Schedule.{IsMade, IsPlace, group_of, name_of, word_of};
-ghost use Rattle.p9_machine.specs.Board.{state_of, HasRoom, IsUsable, IsRunning, Gives};
+ghost use Rattle.p9_sched.specs.Schedule.{IsMade, IsPlace, group_of};
+ghost use Rattle.p9_machine.specs.Board.{Rest, state_of, HasRoom, IsUsable, IsRunning, Gives};
 ghost use Rattle.p9_machine.specs.Copies.{IsForThread};
 
 use crate::board::Board;
@@ -22,7 +22,7 @@ pub(crate) fn is_made(sched: &Sched, t: Tid) -> bool
 /// Lets the other ready threads run first.
 fn give_way(board: &mut Board, t: Tid) -> Reply
     requires { IsRunning t board.old.sched }
-    ensures { (line : List ℕ) → IsUsable board.old line → Gives board.old line (done t Done (state_of board.old line)) result board.new }
+    ensures { (rest : Rest) → IsUsable board.old rest → Gives board.old rest (done t Done (state_of board.old rest)) result board.new }
 {
     board.ready(t, Answer::Done);
     Reply::Waits
@@ -30,7 +30,7 @@ fn give_way(board: &mut Board, t: Tid) -> Reply
 
 /// An answer at once with a number.
 fn tell(board: &mut Board, number: u64) -> Reply
-    ensures { (line : List ℕ) → IsUsable board.old line → Gives board.old line (now (Number number) (state_of board.old line)) result board.new }
+    ensures { (rest : Rest) → IsUsable board.old rest → Gives board.old rest (now (Number number) (state_of board.old rest)) result board.new }
 {
     let _ = board;
     Reply::Now(Answer::Number(number))
@@ -38,7 +38,7 @@ fn tell(board: &mut Board, number: u64) -> Reply
 
 /// The proc of a thread, also of one that has ended.
 fn tell_proc(board: &mut Board, t: Tid) -> Reply
-    ensures { (line : List ℕ) → IsUsable board.old line → Gives board.old line (pid_of (state_of board.old line) (by_id board.old.sched.threads t)) result board.new }
+    ensures { (rest : Rest) → IsUsable board.old rest → Gives board.old rest (pid_of (state_of board.old rest) (by_id board.old.sched.threads t)) result board.new }
 {
     if is_made(&board.sched, t) {
         Reply::Now(Answer::Number(u64::from(board.sched.proc_of(t))))
@@ -51,7 +51,7 @@ fn tell_proc(board: &mut Board, t: Tid) -> Reply
 fn join_group(board: &mut Board, t: Tid, group: u32) -> Reply
     requires room { HasRoom board.old }
     requires made { IsMade t board.old.sched }
-    ensures { (line : List ℕ) → IsUsable board.old line → Gives board.old line (now (Number (group_of (by_id board.old.sched.threads t))) (with_changed (in_group group) t (state_of board.old line))) result board.new }
+    ensures { (rest : Rest) → IsUsable board.old rest → Gives board.old rest (now (Number (group_of (by_id board.old.sched.threads t))) (with_changed (in_group group) t (state_of board.old rest))) result board.new }
 {
     let old = board.sched.group(t);
     board.sched.set_group(t, group);
@@ -70,7 +70,7 @@ fn is_no_name(name: &Msg) -> bool
 fn take_name(board: &mut Board, t: Tid, name: Msg) -> Reply
     requires room { HasRoom board.old }
     requires made { IsMade t board.old.sched }
-    ensures { (line : List ℕ) → IsUsable board.old line → Gives board.old line (set_name t name (state_of board.old line)) result board.new }
+    ensures { (rest : Rest) → IsUsable board.old rest → Gives board.old rest (set_name t name (state_of board.old rest)) result board.new }
 {
     if is_no_name(&name) {
         return Reply::Now(Answer::Bad);
@@ -81,7 +81,7 @@ fn take_name(board: &mut Board, t: Tid, name: Msg) -> Reply
 
 /// The caller's name, of which this is a copy.
 fn tell_name(board: &mut Board, name: Msg) -> Reply
-    ensures { (line : List ℕ) → IsUsable board.old line → Gives board.old line (now (Text name) (state_of board.old line)) result board.new }
+    ensures { (rest : Rest) → IsUsable board.old rest → Gives board.old rest (now (Text name) (state_of board.old rest)) result board.new }
 {
     let _ = board;
     Reply::Now(Answer::Text(name))
@@ -90,7 +90,7 @@ fn tell_name(board: &mut Board, name: Msg) -> Reply
 /// Sets the caller's word.
 fn take_word(board: &mut Board, t: Tid, word: u64) -> Reply
     requires { IsMade t board.old.sched }
-    ensures { (line : List ℕ) → IsUsable board.old line → Gives board.old line (now Done (with_changed (with_word word) t (state_of board.old line))) result board.new }
+    ensures { (rest : Rest) → IsUsable board.old rest → Gives board.old rest (now Done (with_changed (with_word word) t (state_of board.old rest))) result board.new }
 {
     board.sched.set_word(t, word);
     Reply::Now(Answer::Done)
@@ -99,7 +99,7 @@ fn take_word(board: &mut Board, t: Tid, word: u64) -> Reply
 /// The word of a proc.
 fn tell_proc_word(board: &mut Board, p: u32) -> Reply
     requires { IsPlace p board.old.sched }
-    ensures { (line : List ℕ) → IsUsable board.old line → Gives board.old line (proc_word_of (state_of board.old line) (by_id (state_of board.old line).procs p)) result board.new }
+    ensures { (rest : Rest) → IsUsable board.old rest → Gives board.old rest (proc_word_of (state_of board.old rest) (by_id (state_of board.old rest).procs p)) result board.new }
 {
     Reply::Now(Answer::Number(board.sched.proc_word(p)))
 }
@@ -107,7 +107,7 @@ fn tell_proc_word(board: &mut Board, p: u32) -> Reply
 /// Sets the word of a proc.
 fn take_proc_word(board: &mut Board, p: u32, word: u64) -> Reply
     requires { IsPlace p board.old.sched }
-    ensures { (line : List ℕ) → IsUsable board.old line → Gives board.old line (set_proc_word p word (state_of board.old line)) result board.new }
+    ensures { (rest : Rest) → IsUsable board.old rest → Gives board.old rest (set_proc_word p word (state_of board.old rest)) result board.new }
 {
     board.sched.set_proc_word(p, word);
     Reply::Now(Answer::Done)
@@ -118,7 +118,7 @@ pub(crate) fn thread_call(board: &mut Board, t: Tid, request: ThreadReq, name: M
     requires runs { IsRunning t board.old.sched }
     requires room { HasRoom board.old }
     requires name { IsForThread request (by_id board.old.sched.threads t) name }
-    ensures { (line : List ℕ) → IsUsable board.old line → Gives board.old line (thread_call board.old.setup t request (state_of board.old line)) result board.new }
+    ensures { (rest : Rest) → IsUsable board.old rest → Gives board.old rest (thread_call board.old.setup t request (state_of board.old rest)) result board.new }
 {
     let p = board.sched.proc_of(t);
     let group = board.sched.group(t);

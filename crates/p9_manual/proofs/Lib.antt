@@ -1,7 +1,9 @@
 pub mod Tallies
 pub mod Standing
 pub mod RunMoves
+pub mod RunWoken
 pub mod RunCalls
+pub mod RunChans
 pub mod RunCreate
 pub mod RunEnds
 pub mod RunAsked
@@ -14,5 +16,9 @@ pub mod IoLaws
 pub mod Sound
 pub mod EndLaws
 pub mod StuckLaws
+pub mod MoveLaws
 pub mod Lined
 pub mod Refusals
+pub mod OneProc
+pub mod Moves
+pub mod Receipts

@@ -15,7 +15,8 @@ use Rattle.p9_manual.proofs.Tallies.{tally, tally_none, none_tally}
 use Rattle.p9_manual.proofs.Standing.{place_in, times_in_line}
 use Rattle.p9_manual.proofs.RunMembers.{proc_at}
 use Rattle.p9_manual.proofs.RunHistory.{kept_after}
-use Rattle.p9_manual.proofs.StuckLaws.{stuck_cause, stuck_told, unstuck_moves}
+use Rattle.p9_manual.proofs.StuckLaws.{stuck_cause, stuck_told}
+use Rattle.p9_manual.proofs.MoveLaws.{unstuck_moves}
 
 ready_at : (pl : Place) (t : ℕ) (line : List ℕ) → tally (λ u. eqb u t) line ≡ times_in_line pl → is_ready pl ≡ list_any (λ u. eqb u t) line
 ready_at New t line e = sym (true_from_ne_false _ (λ none. let z = tally_none (λ u. eqb u t) line none in omega (arith, e, z)))

@@ -1,13 +1,11 @@
 -- A request that is refused leaves the state, but for the number of entries.
 use Rattle.std.proofs.Common.{ℕ, ◌≡◌, ◌+◌, Bool, true, false, not, cond, ◌||◌, List, Option, Some, None, refl}
-use Rattle.std.specs.Prelude.{option_map, nat_lt}
+use Rattle.std.specs.Prelude.{option_map, nat_lt, nat_le, length}
 use Rattle.std.specs.List.{list_any}
 use Rattle.p9_word.specs.declared.trail.Seat.{Seat}
 use Rattle.p9_word.specs.declared.trail.Seat.TheVariants.{Proc, Io as IoSeat}
 use Rattle.p9_word.specs.declared.trail.Event.{Event}
 use Rattle.p9_word.specs.declared.trail.Event.TheVariants.{Call, Next, IoTake, IoDid}
-use Rattle.p9_word.specs.declared.answer.Answer.{Answer}
-use Rattle.p9_word.specs.declared.answer.Answer.TheVariants as answer
 use Rattle.p9_word.specs.declared.trail.Reply.{Reply}
 use Rattle.p9_word.specs.declared.trail.Reply.TheVariants as reply
 use Rattle.p9_word.specs.declared.request.Request.{Request}
@@ -15,7 +13,7 @@ use Rattle.p9_word.specs.declared.request.Request.TheVariants.{Thread as ThreadR
 use Rattle.p9_word.specs.declared.request.ThreadReq.{ThreadReq}
 use Rattle.p9_word.specs.declared.request.ThreadReq.TheVariants as ask
 use Rattle.p9_word.specs.declared.request.ChanReq.{ChanReq}
-use Rattle.p9_word.specs.declared.request.ChanReq.TheVariants.{ChanClose, Send, Recv}
+use Rattle.p9_word.specs.declared.request.ChanReq.TheVariants as chan_ask
 use Rattle.p9_word.specs.declared.request.IoReq.{IoReq}
 use Rattle.p9_word.specs.declared.request.IoReq.TheVariants.{IoProc, IoRun, CloseIoProc}
 use Rattle.p9_word.specs.declared.io_call.IoCall.{IoCall}
@@ -25,14 +23,17 @@ use Rattle.p9_manual.specs.declared.state.Place.{Place}
 use Rattle.p9_manual.specs.declared.state.Place.TheVariants.{Running, New, Ready, Waiting, Ended}
 use Rattle.p9_manual.specs.declared.state.Thread.{Thread}
 use Rattle.p9_manual.specs.declared.state.Channel.{Channel}
-use Rattle.p9_manual.specs.declared.state.Waiter.{Waiter}
 use Rattle.p9_manual.specs.declared.state.Ioproc.{Ioproc}
 use Rattle.p9_manual.specs.declared.state.Ioproc.TheVariants as stand
 use Rattle.p9_manual.specs.State.{State, Outcome, Proc as ThreadProc, by_id, pick}
 use Rattle.p9_manual.specs.Places.{runs_there, runs_in, lives, is_of}
 use Rattle.p9_manual.specs.Create.{create_thread, create_proc, is_no_program, is_full}
 use Rattle.p9_manual.specs.Threads.{thread_call, asked, asked_by, pid_of, word_of, is_no_name}
-use Rattle.p9_manual.specs.Chans.{chan_call, send, send_to, recv, recv_from, close, is_too_long}
+use Rattle.p9_manual.specs.Offers.{Alternation, alternation}
+use Rattle.p9_manual.specs.Ready.{fits as fits_chans}
+use Rattle.p9_manual.specs.Alt.{Verdict, AllClosed, Commits, NoneReady, MustWait, decided}
+use Rattle.p9_manual.specs.Close.{close, free, closing}
+use Rattle.p9_manual.specs.Chans.{chan_call, by_alternation, on_channel, create_channel, is_no_size}
 use Rattle.p9_manual.specs.Ioprocs.{io_call, make, post_call, close_ioproc, take_call, did_call, fits, io_event}
 use Rattle.p9_manual.specs.Effects.{message_length}
 use Rattle.p9_manual.specs.Stuck.{is_stuck}
@@ -48,32 +49,43 @@ if_leaves : (s : State) (b : Bool) (o p : Outcome) → Leaves s o → Leaves s p
 if_leaves s true o p f g = f
 if_leaves s false o p f g = g
 
-send_to_leaves : (t c elsize : ℕ) (v : Option (List ℕ)) (s : State) (o : Option (Waiter × List Waiter)) → Leaves s (send_to t c elsize v s o)
-send_to_leaves t c elsize v s None = λ e. cc
-send_to_leaves t c elsize v s (Some found) = λ e. cc
-
-send_leaves : (t c : ℕ) (v : Option (List ℕ)) (s : State) (o : Option Channel) → Leaves s (send t c v s o)
-send_leaves t c v s None = λ e. refl
-send_leaves t c v s (Some chan) =
-    if_leaves s (is_too_long chan.elsize v) _ _ (λ e. refl) (if_leaves s chan.closed _ _ (λ e. cc) (send_to_leaves t c chan.elsize v s _))
-
-recv_from_leaves : (t : ℕ) (keep : Bool) (c elsize : ℕ) (s : State) (o : Option (Waiter × List Waiter)) → Leaves s (recv_from t keep c elsize s o)
-recv_from_leaves t keep c elsize s None = λ e. cc
-recv_from_leaves t keep c elsize s (Some found) = λ e. cc
-
-recv_leaves : (t : ℕ) (keep : Bool) (c : ℕ) (s : State) (o : Option Channel) → Leaves s (recv t keep c s o)
-recv_leaves t keep c s None = λ e. refl
-recv_leaves t keep c s (Some chan) = if_leaves s chan.closed _ _ (λ e. cc) (recv_from_leaves t keep c chan.elsize s _)
-
 close_leaves : (c : ℕ) (s : State) (o : Option Channel) → Leaves s (close c s o)
 close_leaves c s None = λ e. refl
 close_leaves c s (Some chan) = if_leaves s chan.closed _ _ (λ e. cc) (λ e. cc)
 
+free_leaves : (c : ℕ) (s : State) (o : Option Channel) → Leaves s (free c s o)
+free_leaves c s None = λ e. refl
+free_leaves c s (Some chan) = λ e. cc
+
+closing_leaves : (s : State) (o : Option Channel) → Leaves s (closing s o)
+closing_leaves s None = λ e. refl
+closing_leaves s (Some chan) = if_leaves s chan.closed _ _ (λ e. cc) (λ e. refl)
+
+create_channel_leaves : (cap elsize : ℕ) (s : State) → Leaves s (create_channel cap elsize s)
+create_channel_leaves cap elsize s =
+    if_leaves s (is_no_size cap elsize) _ _ (λ e. refl) (if_leaves s (nat_le 1024 (length s.chans)) _ _ (λ e. refl) (λ e. cc))
+
+on_channel_leaves : (r : ChanReq) (s : State) → Leaves s (on_channel r s)
+on_channel_leaves (chan_ask.ChanCreate cap elsize) s = create_channel_leaves cap elsize s
+on_channel_leaves (chan_ask.ChanFree c) s = free_leaves c s _
+on_channel_leaves (chan_ask.ChanClose c) s = close_leaves c s _
+on_channel_leaves (chan_ask.ChanClosing c) s = closing_leaves s _
+on_channel_leaves r s = λ e. refl
+
+-- an alt that may be asked for is never refused
+decided_leaves : (t : ℕ) (request : Request) (s n : State) (v : Verdict) → Leaves s (decided t request n v)
+decided_leaves t request s n AllClosed = λ e. cc
+decided_leaves t request s n (Commits d) = λ e. cc
+decided_leaves t request s n NoneReady = λ e. cc
+decided_leaves t request s n MustWait = λ e. cc
+
+alternation_leaves : (S : Setup) (t : ℕ) (r : ChanReq) (s : State) (o : Option Alternation) → Leaves s (by_alternation S t r s o)
+alternation_leaves S t r s None = on_channel_leaves r s
+alternation_leaves S t r s (Some a) = if_leaves s (fits_chans s.chans a.entries) _ _ (decided_leaves t (ChanRequest r) s _ _) (λ e. refl)
+
 chan_leaves : (S : Setup) (t : ℕ) (r : ChanReq) (s : State) → Leaves s (chan_call S t r s)
 unfolding chan_call
-chan_leaves S t (ChanClose c) s = close_leaves c s _
-chan_leaves S t (Send c v) s = send_leaves t c v s _
-chan_leaves S t (Recv keep c) s = recv_leaves t keep c s _
+chan_leaves S t r s = alternation_leaves S t r s (alternation r)
 
 create_leaves : (S : Setup) (program arg : ℕ) (s : State) (caller : Thread) → Leaves s (create_thread S program arg s caller)
 create_leaves S program arg s caller = if_leaves s (is_no_program S program) _ _ (λ e. refl) (if_leaves s (is_full s) _ _ (λ e. refl) (λ e. cc))

@@ -25,7 +25,8 @@ use Rattle.p9_manual.specs.IoReplies.{IsBegun}
 use Rattle.p9_manual.proofs.Tallies.{tally, tally-changed, tally-map}
 use Rattle.p9_manual.proofs.Standing.{IsUp, place_of, place_in, times_waiting, times_in_line, get_by_id, by_id-changed_same, by_id-changed_other}
 use Rattle.p9_manual.proofs.RunMoves.{IsUpright, IsFading, is_unborn, RunsIn}
-use Rattle.p9_manual.proofs.RunCalls.{IsServed, done_served, now_served, chan_call_served, io_call_served}
+use Rattle.p9_manual.proofs.RunCalls.{IsServed, done_served, now_served, io_call_served}
+use Rattle.p9_manual.proofs.RunChans.{chan_call_served}
 use Rattle.p9_manual.proofs.RunCreate.{making}
 use Rattle.p9_manual.proofs.RunEnds.{exits_served, all_places, all_unborn, none_lives, all_upright, all_begun}
 

@@ -1,6 +1,6 @@
 -- What holds of the threads, the waits and the ioprocs of each state that a legal history comes to, as far as a runner
 -- of threads rests on it, and what the operations that the requests share keep of it.
-use Rattle.std.proofs.Common.{◌≡◌, ◌≢◌, ℕ, ◌+◌, ◌-◌, ◌≤◌, Bool, true, false, cond, ◌&&◌, eqb, ltb, List, [], ◌∷◌, ◌++◌, map, Option, Some, None, refl, ap, sym, subst, ◌∙◌, inl, inr, arith, rules, tests}
+use Rattle.std.proofs.Common.{◌≡◌, ◌≢◌, ℕ, ◌-◌, ◌≤◌, Bool, true, false, cond, ◌&&◌, eqb, ltb, List, [], ◌∷◌, ◌++◌, map, Option, Some, None, refl, ap, sym, subst, ◌∙◌, inl, inr, arith, rules, tests}
 use Rattle.std.proofs.lemmas.Bool.{cases_eq, and_parts}
 use Rattle.p9_word.specs.declared.answer.Answer.{Answer}
 use Rattle.p9_word.specs.declared.request.Request.{Request}
@@ -13,10 +13,10 @@ use Rattle.p9_manual.specs.declared.state.Waiter.{Waiter}
 use Rattle.p9_manual.specs.declared.state.Ioproc.{Ioproc}
 use Rattle.p9_manual.specs.declared.state.Ioproc.TheVariants.{Unmade, Idle, Posted, Begun, Closed}
 use Rattle.p9_manual.specs.Effects.{message_length}
-use Rattle.p9_manual.specs.State.{State, by_id, pick, placed, at_place, woken, waiting, readied}
+use Rattle.p9_manual.specs.State.{State, by_id, placed, at_place, waiting, readied}
 use Rattle.p9_manual.specs.Places.{is_ended}
 use Rattle.p9_manual.specs.Ends.{ended, let_go}
-use Rattle.p9_manual.proofs.Tallies.{tally, tally_pick, tally-push, tally-changed, tally-map, tally-map_same, tally-le, filter_none}
+use Rattle.p9_manual.proofs.Tallies.{tally, tally-push, tally-changed, tally-map, tally-map_same, tally-le, filter_none}
 use Rattle.p9_manual.proofs.Standing.{IsUp, IsMade, place_of, place_in, times_waiting, times_in_line, made_up, get_by_id, by_id-changed_same, by_id-changed_other, place_of-placed_same, place_of-placed_other}
 
 -- an ioproc keeps a call of thread u
@@ -255,23 +255,6 @@ ended_upright s t upright runs =
     (λ u ne. refl) no_place (λ u ne. refl) no_wait (ended_calls s t upright no_wait)
     (let k = tally-map is_long (let_go t) (let_go_long t) s.ioprocs in let z = upright.short in omega (arith, k, z)))
 
-pub waiting_place : (pl : Place) (n : ℕ) → 1 + n ≡ times_waiting pl → (pl ≡ Waiting) × (n ≡ 0)
-waiting_place Waiting n h = (refl, omega arith)
-waiting_place New n h = absurd (omega arith)
-waiting_place (Ready a) n h = absurd (omega arith)
-waiting_place Running n h = absurd (omega arith)
-waiting_place Ended n h = absurd (omega arith)
-
--- a thread whose wait is picked waits, and nowhere else
-pub picked_waits : (s : State) (p : Waiter → Bool) (w : Waiter) (others : List Waiter) → IsUpright s → pick p s.waits ≡ Some (w, others) → (place_of s.threads w.tid ≡ Waiting) × (tally (λ x. eqb x.tid w.tid) others ≡ 0)
-picked_waits s p w others upright e =
-    let k = tally_pick p (λ x. eqb x.tid w.tid) s.waits w others e in
-    let one = rw (same_id w.tid) at k in
-    waiting_place (place_of s.threads w.tid) (tally (λ x. eqb x.tid w.tid) others) (sym one ∙ upright.in_waits w.tid)
-
-pub picked_up : (s : State) (p : Waiter → Bool) (w : Waiter) (others : List Waiter) → IsUpright s → pick p s.waits ≡ Some (w, others) → IsUp (place_of s.threads w.tid)
-picked_up s p w others upright e = rw ((picked_waits s p w others upright e).0) tt
-
 not_io : (b c : Bool) → c ≡ false → (b && c) ≡ false
 not_io true c h = h
 not_io false c h = refl
@@ -279,20 +262,3 @@ not_io false c h = refl
 -- t isn't one that waits for an ioproc by this wait
 pub no_io_wait : (u : ℕ) (w : Waiter) → asks_io w.request ≡ false → is_io_wait_of u w ≡ false
 no_io_wait u w h = not_io (eqb w.tid u) (asks_io w.request) h
-
-pub woken_upright : (s : State) (p : Waiter → Bool) (w : Waiter) (others : List Waiter) (a : Answer) → IsUpright s → pick p s.waits ≡ Some (w, others) → asks_io w.request ≡ false → IsUpright (woken w.tid a others s)
-woken_upright s p w others a upright e chan =
-    let here = picked_waits s p w others upright e in
-    placed_upright s.threads s.line (s.line ++ w.tid ∷ []) s.waits others s.ioprocs s.ioprocs w.tid (Ready a) upright (made_up s.threads w.tid (picked_up s p w others upright e))
-    (pushed_other w.tid s.line) (pushed_here w.tid s.line (upright.in_line w.tid ∙ ap times_in_line here.0))
-    (λ u ne. let k = tally_pick p (λ x. eqb x.tid u) s.waits w others e in let z = rw (other_id w.tid u ne) at k in omega (arith, z))
-    here.1
-    (λ u. let k = tally_pick p (is_io_wait_of u) s.waits w others e in let z = rw (no_io_wait u w chan) at k in let c = upright.in_calls u in omega (arith, z, c))
-    upright.short
-
--- one who runs isn't one whose wait is picked
-pub not_picked : (s : State) (p : Waiter → Bool) (w : Waiter) (others : List Waiter) (t : ℕ) → IsUpright s → pick p s.waits ≡ Some (w, others) → RunsIn s t → t ≢ w.tid
-not_picked s p w others t upright e runs same =
-    let waits = (picked_waits s p w others upright e).0 in
-    let r = subst (λ (x : ℕ). place_of s.threads x ≡ Running) same runs in
-    cc (r, waits)

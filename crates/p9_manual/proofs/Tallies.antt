@@ -1,5 +1,5 @@
 -- How often a test passes in a list, where the list is picked from, added to or changed at a place.
-use Rattle.std.proofs.Common.{◌≡◌, ℕ, zero, suc, ◌+◌, ◌≤◌, Bool, true, false, not, cond, ◌||◌, List, [], ◌∷◌, ◌++◌, map, Option, Some, None, refl, ap, ◌∙◌, arith}
+use Rattle.std.proofs.Common.{◌≡◌, ℕ, zero, suc, ◌+◌, ◌≤◌, Bool, true, false, not, cond, ◌||◌, List, [], ◌∷◌, ◌++◌, map, Option, Some, None, refl, ap, arith}
 use Rattle.std.specs.Prelude.{slice_get}
 use Rattle.std.specs.List.{filter, list_any}
 use Rattle.std.proofs.lemmas.Option.{some_pair_parts}
@@ -73,18 +73,6 @@ tally-append q (x ∷ xs) ys = omega (arith, tally-append q xs ys)
 pub tally-push : {A : Type 0} (q : A → Bool) (b : Bool) (xs : List A) (y : A) → q y ≡ b → tally q (xs ++ y ∷ []) ≡ tally q xs + cond b 1 0
 tally-push q b xs y h = let a = tally-append q xs (y ∷ []) in rw (a, h) (omega arith)
 
-split_step : {A : Type 0} (q : A → Bool) (b : Bool) (w : A) (fs gs ws : List A) → tally q fs + tally q gs ≡ tally q ws → tally q (cond b (w ∷ fs) fs) + tally q (cond (not b) (w ∷ gs) gs) ≡ cond (q w) 1 0 + tally q ws
-split_step q true w fs gs ws e = omega arith
-split_step q false w fs gs ws e = omega arith
-
-tally_parts : {A : Type 0} (q p : A → Bool) → (ws : List A) → tally q (filter p ws) + tally q (filter (λ w. not (p w)) ws) ≡ tally q ws
-tally_parts q p [] = refl
-tally_parts q p (w ∷ ws) = split_step q (p w) w (filter p ws) (filter (λ x. not (p x)) ws) ws (tally_parts q p ws)
-
--- a list that is parted in two
-pub tally-split : {A : Type 0} (q p : A → Bool) (ws : List A) → tally q (filter p ws ++ filter (λ w. not (p w)) ws) ≡ tally q ws
-tally-split q p ws = tally-append q (filter p ws) (filter (λ w. not (p w)) ws) ∙ tally_parts q p ws
-
 one_of : (b c : Bool) → (b ≡ true → c ≡ true) → cond b 1 0 ≤ cond c 1 0
 one_of true true h = omega arith
 one_of true false h = let e = h refl in cc
@@ -151,14 +139,14 @@ pub tally-map_same : {A : Type 0} (q : A → Bool) (f : A → A) → ((x : A) �
 tally-map_same q f h [] = refl
 tally-map_same q f h (x ∷ xs) = rw (h x, tally-map_same q f h xs) refl
 
-none_kept : {A : Type 0} (q : A → Bool) (b : Bool) (x : A) (rest : List A) → (b ≡ true → q x ≡ false) → tally q rest ≡ 0 → tally q (cond b (x ∷ rest) rest) ≡ 0
-none_kept q true x rest h e = let n = h refl in rw (n, e) refl
-none_kept q false x rest h e = e
+fewer_step : {A : Type 0} (q : A → Bool) (b : Bool) (x : A) (rest xs : List A) → tally q rest ≤ tally q xs → tally q (cond b (x ∷ rest) rest) ≤ cond (q x) 1 0 + tally q xs
+fewer_step q true x rest xs h = omega (arith, h)
+fewer_step q false x rest xs h = omega (arith, h)
 
--- what is filtered doesn't pass a test that excludes it
-pub tally-filtered_none : {A : Type 0} (p q : A → Bool) → ((x : A) → p x ≡ true → q x ≡ false) → (xs : List A) → tally q (filter p xs) ≡ 0
-tally-filtered_none p q h [] = refl
-tally-filtered_none p q h (x ∷ xs) = none_kept q (p x) x (filter p xs) (h x) (tally-filtered_none p q h xs)
+-- what is filtered passes no more often
+pub tally-filtered_fewer : {A : Type 0} (q p : A → Bool) → (xs : List A) → tally q (filter p xs) ≤ tally q xs
+tally-filtered_fewer q p [] = omega arith
+tally-filtered_fewer q p (x ∷ xs) = fewer_step q (p x) x (filter p xs) xs (tally-filtered_fewer q p xs)
 
 -- none pass: neither the first one nor the others
 pub none_first : (b : Bool) (n : ℕ) → cond b 1 0 + n ≡ 0 → (b ≡ false) × (n ≡ 0)

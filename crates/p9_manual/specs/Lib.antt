@@ -5,6 +5,12 @@ pub mod Files
 pub mod State
 pub mod Places
 pub mod Threads
+pub mod Offers
+pub mod Ready
+pub mod Commit
+pub mod Words
+pub mod Alt
+pub mod Close
 pub mod Chans
 pub mod Ioprocs
 pub mod Stuck
@@ -14,9 +20,12 @@ pub mod Next
 pub mod Step
 pub mod History
 pub mod Programs
+pub mod Communications
 pub mod FilesInHistory
 pub mod Examples
 pub mod ThreadExamples
+pub mod ChannelExamples
+pub mod AltExamples
 pub mod Refusals
 pub mod RunReplies
 pub mod IoReplies

@@ -1,5 +1,5 @@
 -- A request that is refused changes nothing. This project's own.
-use Rattle.std.specs.Prelude.{ℕ, ◌≡◌, ◌+◌, Bool, true, false}
+use Rattle.std.specs.Prelude.{◌≡◌, ◌+◌, Bool, true, false}
 use Rattle.p9_word.specs.declared.answer.Answer.TheVariants.{Bad, Minus}
 use Rattle.p9_word.specs.declared.setup.Setup.{Setup}
 use Rattle.p9_word.specs.declared.trail.Event.{Event}

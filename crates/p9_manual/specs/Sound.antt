@@ -1,12 +1,12 @@
 -- What holds of the state after every history. This project's own.
-use Rattle.std.specs.Prelude.{ℕ, ◌≡◌, ◌≤◌, ◌==◌, ◌⊎◌, All, Bool, true, false, not, List, [], ◌∷◌, Option, Some, None, if◌then◌else◌}
+use Rattle.std.specs.Prelude.{ℕ, ◌≡◌, ◌≤◌, ◌==◌, ◌+◌, ◌||◌, ◌⊎◌, All, Bool, true, false, List, [], ◌∷◌, Option, Some, None, if◌then◌else◌, length, map}
 use Rattle.std.specs.List.{flat_map}
+use Rattle.std.specs.Option.{is_some}
 use Rattle.p9_word.specs.Setup.{IsBetween}
 use Rattle.p9_word.specs.declared.setup.Setup.{Setup}
 use Rattle.p9_word.specs.declared.request.Request.{Request}
-use Rattle.p9_word.specs.declared.request.Request.TheVariants.{Chan as ChanRequest, Io as IoRequest}
-use Rattle.p9_word.specs.declared.request.ChanReq.TheVariants.{Send, Recv}
-use Rattle.p9_word.specs.declared.request.IoReq.TheVariants.{IoRun}
+use Rattle.p9_word.specs.declared.request.Request.TheVariants.{Chan as ChanRequest, Thread as ThreadRequest, Io as IoRequest}
+use Rattle.p9_word.specs.declared.request.IoReq.TheVariants.{IoProc, IoRun, CloseIoProc}
 use Rattle.p9_word.specs.declared.io_call.IoCall.{IoCall}
 use Rattle.p9_manual.specs.declared.state.Thread.{Thread}
 use Rattle.p9_manual.specs.declared.state.Waiter.{Waiter}
@@ -14,8 +14,9 @@ use Rattle.p9_manual.specs.declared.state.Channel.{Channel}
 use Rattle.p9_manual.specs.declared.state.Ioproc.{Ioproc}
 use Rattle.p9_manual.specs.declared.state.Ioproc.TheVariants.{Posted, Begun}
 use Rattle.p9_manual.specs.Effects.{message_length}
-use Rattle.p9_manual.specs.Standing.{StandOnce, times}
-use Rattle.p9_manual.specs.Chans.{sends_on, receives_on, waits_on}
+use Rattle.p9_manual.specs.Standing.{StandOnce, IsRising, times}
+use Rattle.p9_manual.specs.Offers.{alternation, parties, sends_on, receives_on, waits_on}
+use Rattle.p9_manual.specs.Ready.{has_room, has_element}
 use Rattle.p9_manual.specs.State.{State, by_id}
 
 -- a thread is in one of the open procs and has one of the programs
@@ -23,26 +24,43 @@ pub record IsThreadIn (opened programs : ℕ) (t : Thread) : Type 0 where
   pub proc_no : IsBetween 1 opened t.proc_no
   pub program : IsBetween 1 programs t.program
 
--- the requests in which threads wait: sends, receives and calls through ioprocs
+-- the requests in which threads wait: alts, and calls through ioprocs
 abbrev pub can_wait : Request → Bool
-can_wait (ChanRequest (Send c value)) = true
-can_wait (ChanRequest (Recv keep c)) = true
+can_wait (ChanRequest r) = is_some (alternation r)
+can_wait (ThreadRequest r) = false
 can_wait (IoRequest (IoRun k call)) = true
-can_wait request = false
+can_wait (IoRequest (IoProc k)) = false
+can_wait (IoRequest (CloseIoProc k)) = false
 
--- a channel is there and isn't closed
-abbrev pub is_open : Option Channel → Bool
-is_open None = false
-is_open (Some chan) = not chan.closed
+-- no send waits on this channel: it is closed or has room, or isn't there
+abbrev pub takes_sends : Option Channel → Bool
+takes_sends None = true
+takes_sends (Some chan) = chan.closed || has_room chan
+
+-- no receive waits on it: it is closed or has an element, or isn't there
+abbrev pub takes_receives : Option Channel → Bool
+takes_receives None = true
+takes_receives (Some chan) = chan.closed || has_element chan
 
 -- what threads wait in
 pub record WaitRightly (chans : List Channel) (waits : List Waiter) : Type 0 where
   -- each waits in a request that can wait
   pub kinds : All (λ w. can_wait w.request ≡ true) waits
-  -- nobody waits on a channel that is closed or isn't there
-  pub on_open : (c : ℕ) → is_open (by_id chans c) ≡ false → times (waits_on c) waits ≡ 0
-  -- on each channel no send waits or no receive waits
-  pub unpaired : (c : ℕ) → (times (λ w. sends_on c w.request) waits ≡ 0) ⊎ (times (λ w. receives_on c w.request) waits ≡ 0)
+  -- nobody waits to send where a send goes on at once
+  pub sends : (c : ℕ) → takes_sends (by_id chans c) ≡ true → times (sends_on c) (parties waits) ≡ 0
+  -- nobody waits to receive where a receive goes on at once
+  pub receives : (c : ℕ) → takes_receives (by_id chans c) ≡ true → times (receives_on c) (parties waits) ≡ 0
+  -- on each channel no thread waits to send, or none to receive, or only one thread waits
+  pub unpaired : (c : ℕ) → (times (sends_on c) (parties waits) ≡ 0) ⊎ ((times (receives_on c) (parties waits) ≡ 0) ⊎ (times (waits_on c) (parties waits) ≤ 1))
+
+-- a channel has at most as many elements as its capacity says
+abbrev pub IsWithin : Channel → Type 0
+IsWithin chan = length chan.elements ≤ chan.cap
+
+-- the places of the calls in which threads wait: each was made before now, and they came in this order
+pub record InOrder (entries : ℕ) (waits : List Waiter) : Type 0 where
+  pub before : All (λ w. w.at + 1 ≤ entries) waits
+  pub rising : IsRising (map (λ w. w.at) waits)
 
 -- the call at ioproc k that thread t makes by a request, with t
 abbrev pub call_in : ℕ → ℕ → Request → List (ℕ × IoCall)
@@ -83,7 +101,11 @@ pub record IsSound (setup : Setup) (s : State) : Type 0 where
   pub members : All (IsThreadIn s.opened setup.programs) s.threads
   -- each open proc has a place
   pub opened : s.opened ≤ setup.places
-  -- nobody waits on a closed channel, nor on one beside its partner
+  -- nobody waits on a channel where it could go on, nor on one beside its partner
   pub waits_right : WaitRightly s.chans s.waits
+  -- no channel has more elements than it may have
+  pub within : All IsWithin s.chans
+  -- the waits stand in the order of their calls
+  pub order : InOrder s.entries s.waits
   -- ioprocs and the threads that wait for them agree
   pub calls : CallsMatch s.ioprocs s.waits

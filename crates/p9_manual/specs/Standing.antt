@@ -1,5 +1,5 @@
 -- Where threads stand: what a sound state says of the line and the waits. This project's own.
-use Rattle.std.specs.Prelude.{ℕ, ◌≡◌, ◌≤◌, ◌==◌, ◌+◌, Bool, cond, List, [], ◌∷◌, Option, Some, None}
+use Rattle.std.specs.Prelude.{ℕ, ◌≡◌, ◌≤◌, ◌==◌, ◌+◌, All, Bool, cond, List, [], ◌∷◌, Option, Some, None}
 use Rattle.p9_manual.specs.declared.state.Place.{Place}
 use Rattle.p9_manual.specs.declared.state.Place.TheVariants.{New, Ready, Waiting, Ended}
 use Rattle.p9_manual.specs.declared.state.Thread.{Thread}
@@ -11,6 +11,11 @@ use Rattle.p9_manual.specs.State.{by_id}
 abbrev pub times : {A : Type 0} → (A → Bool) → List A → ℕ
 times p [] = 0
 times p (x ∷ xs) = cond (p x) 1 0 + times p xs
+
+-- each number is greater than all before it
+abbrev pub IsRising : List ℕ → Type 0
+IsRising [] = Unit {0}
+IsRising (n ∷ ns) = All (λ m. n + 1 ≤ m) ns × IsRising ns
 
 -- where a thread is; one that isn't there has ended
 abbrev pub place_in : Option Thread → Place

@@ -7,4 +7,4 @@
 pub mod laws;
 mod state;
 
-pub use state::{Channel, Element, Ioproc, Place, Thread, Waiter};
+pub use state::{Channel, Element, Ioproc, Party, Place, Thread, Waiter};

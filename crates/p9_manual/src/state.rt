@@ -1,4 +1,4 @@
-use p9_word::{Answer, IoCall, Msg, Request, Seq, Tid};
+use p9_word::{AltEntry, Answer, IoCall, Msg, Request, Seq, Tid};
 
 /// Where a thread is. It lives until it has ended. thread(2).
 #[derive(Drop)]
@@ -45,6 +45,19 @@ pub struct Waiter {
     pub request: Request,
     /// The place of its call in the trail.
     pub at: u64,
+}
+
+/// A thread that waits in an alt, or makes one. thread(2).
+#[derive(Drop)]
+pub struct Party {
+    /// The thread.
+    pub tid: Tid,
+    /// The place of its call in the trail.
+    pub at: u64,
+    /// Its answers have the forms of send and recv.
+    pub single: bool,
+    /// The entries of its alt.
+    pub entries: Seq<AltEntry>,
 }
 
 /// An element of a channel.

@@ -36,14 +36,10 @@ use Rattle.p9_run.specs.declared.report.RunEnd.{RunEnd}
 pub no_history : IsCopyHistory []
 no_history = record { legal = tt; files = history_none copy_asks }
 
-only_chan : (k : ℕ) (d : ChanSetup) → k < 1 → (slice_index_or copy_setup.chans k d).cap ≡ 0
-only_chan zero d below = refl
-only_chan (suc k) d below = absurd (omega arith)
-
 -- the setup of a copy is one that machines have so far
 pub copy_is_plain : IsPlain copy_setup
 copy_is_plain =
-    record { chans = only_chan; locks = refl; qlocks = refl; rwlocks = refl; rendezes = refl; refs = refl }
+    record { locks = refl; qlocks = refl; rwlocks = refl; rendezes = refl; refs = refl }
 
 front_none : (o : Option (List ℕ)) → IsFrontOf [] o
 front_none None = refl

@@ -26,7 +26,21 @@ pub enum Answer {
     /// The value was sent.
     Sent,
     /// A value was received, which the call at this place of the trail sent.
-    Got { from: u64, msg: Msg },
+    Got {
+        from: u64,
+        msg: Msg,
+    },
+    /// The entry of an alt that went on, counted from 0; `err` says that its channel is closed. Where it
+    /// received a value: the place of the call that sent it, and its bytes if they are kept; else `None`
+    /// and no bytes.
+    Index {
+        err: bool,
+        i: u32,
+        from: Option<u64>,
+        msg: Msg,
+    },
+    /// Nothing could go on at once.
+    NoBlock,
     /// The channel is closed.
     Closed,
     /// A number: what it counts is said at each request.
@@ -75,6 +89,13 @@ impl Datum for Answer {
                 from: *from,
                 msg: msg.copied(alloc)?,
             }),
+            Answer::Index { err, i, from, msg } => Ok(Answer::Index {
+                err: *err,
+                i: *i,
+                from: from.copied(alloc)?,
+                msg: msg.copied(alloc)?,
+            }),
+            Answer::NoBlock => Ok(Answer::NoBlock),
             Answer::Closed => Ok(Answer::Closed),
             Answer::Number(n) => Ok(Answer::Number(*n)),
             Answer::Minus => Ok(Answer::Minus),
@@ -95,6 +116,21 @@ impl Datum for Answer {
                     msg: other_msg,
                 },
             ) => from == other_from && msg.is_same(other_msg),
+            (
+                Answer::Index { err, i, from, msg },
+                Answer::Index {
+                    err: other_err,
+                    i: other_i,
+                    from: other_from,
+                    msg: other_msg,
+                },
+            ) => {
+                err == other_err
+                    && i == other_i
+                    && from.is_same(other_from)
+                    && msg.is_same(other_msg)
+            }
+            (Answer::NoBlock, Answer::NoBlock) => true,
             (Answer::Closed, Answer::Closed) => true,
             (Answer::Number(a), Answer::Number(b)) => a == b,
             (Answer::Minus, Answer::Minus) => true,

@@ -5,6 +5,7 @@
 //! gives a [`Reply`], and both together are an [`Entry`] of the [`Trail`].
 #![tactic(auto)]
 
+mod alt;
 mod answer;
 mod body;
 mod datum;
@@ -17,6 +18,7 @@ mod seq;
 mod setup;
 mod trail;
 
+pub use alt::{AltEntry, AltOp, Ending, Slot};
 pub use answer::{Answer, IoAnswer};
 pub use body::{Body, Programs};
 pub use datum::Datum;

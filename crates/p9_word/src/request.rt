@@ -1,4 +1,4 @@
-use crate::{Datum, IoCall, Msg, NoMemory};
+use crate::{AltEntry, Datum, Ending, IoCall, Msg, NoMemory, Seq};
 use std::alloc::Global;
 
 /// The id of a thread. Ids count from 1 in the order in which threads are made, and none is used again.
@@ -41,17 +41,87 @@ pub enum ThreadReq {
     ProcSetWord { word: u64 },
 }
 
-/// A request on channels, by their ids from 1. thread(2).
+/// A request on channels, by their ids from 1: `Bad` where it names a channel that was never made or was
+/// freed. thread(2).
 #[derive(Drop)]
 pub enum ChanReq {
+    /// Makes a channel of capacity 0 to 4,096 and element size 1 to 65,536: `Number` of its id, `Minus`
+    /// where 1,024 channels were made, or `Bad` where a number is out of range.
+    ChanCreate {
+        cap: u32,
+        elsize: u32,
+    },
+    /// Frees a channel: `Done`. From then on each request that names it is `Bad`, and who waits there
+    /// waits on.
+    ChanFree {
+        chan: u32,
+    },
     /// Closes a channel: `Number(1)`, or `Number(0)` where it is closed already.
-    ChanClose { chan: u32 },
-    /// Sends a value, or as many zero bytes as an element has where it is `None`, and waits for a
-    /// receiver: `Sent` or `Closed`.
-    Send { chan: u32, value: Option<Msg> },
-    /// Receives a value, and waits for a sender: `Got` or `Closed`. Where `keep` isn't set the value is
-    /// discarded, and the answer has no bytes.
-    Recv { keep: bool, chan: u32 },
+    ChanClose {
+        chan: u32,
+    },
+    /// Whether a channel is closed: `Minus` where it is open, else `Number` of the elements left in it.
+    ChanClosing {
+        chan: u32,
+    },
+    /// The first entry that can go on, goes on, or one of several by the run's generator; else it waits
+    /// until one can. `Index` of that entry, `Closed` where there are entries that aren't no-ops and all
+    /// of them have `err` set, or `NoBlock` where none can go on and the list ends in `NoBlk`. `Bad`
+    /// where there are more than 64 entries, a slot doesn't go with its op (`Snd` with `Null` or `Give`,
+    /// `Rcv` with `Null` or `Keep`, `Nop` with `Null`), or an entry in use names a channel that isn't
+    /// there or gives more bytes than an element has. Lets others run.
+    Alt {
+        ending: Ending,
+        entries: Seq<AltEntry>,
+    },
+    /// Sends a value, or as many zero bytes as an element has where it is `None`. A buffered channel
+    /// takes it at once while it has room; else it waits for a receiver. `Sent`, `Closed` where the
+    /// channel is closed, or `Bad` where the value is longer than an element.
+    Send {
+        chan: u32,
+        value: Option<Msg>,
+    },
+    /// Receives a value, and waits for a sender: `Got`, or `Closed` where the channel is closed and has
+    /// no element left. Where `keep` isn't set the value is discarded, and the answer has no bytes.
+    Recv {
+        keep: bool,
+        chan: u32,
+    },
+    /// As `Send`, but `NoBlock` where that would wait.
+    NbSend {
+        chan: u32,
+        value: Option<Msg>,
+    },
+    /// As `Recv`, but `NoBlock` where that would wait.
+    NbRecv {
+        keep: bool,
+        chan: u32,
+    },
+    /// Sends a number as eight bytes, little end first, as `Send` does: `Bad` where an element has fewer
+    /// than eight.
+    SendUl {
+        chan: u32,
+        n: u64,
+    },
+    /// As a `Recv` that keeps the value: `Got` or `Closed`.
+    RecvUl {
+        chan: u32,
+    },
+    /// As `SendUl`, but `NoBlock` where that would wait.
+    NbSendUl {
+        chan: u32,
+        n: u64,
+    },
+    /// As `RecvUl`, but `NoBlock` where that would wait.
+    NbRecvUl {
+        chan: u32,
+    },
+    /// Sends the bytes of a text as one element, as `Send` does: `Bad` where they are more than an
+    /// element has.
+    ChanPrint {
+        chan: u32,
+        text: Msg,
+    },
 }
 
 /// A request on ioprocs: ioproc k serves file k, from 1. ioproc(2).
@@ -154,7 +224,17 @@ impl Datum for ThreadReq {
 impl Datum for ChanReq {
     fn copied(&self, alloc: Global) -> Result<ChanReq, NoMemory> {
         match self {
+            ChanReq::ChanCreate { cap, elsize } => Ok(ChanReq::ChanCreate {
+                cap: *cap,
+                elsize: *elsize,
+            }),
+            ChanReq::ChanFree { chan } => Ok(ChanReq::ChanFree { chan: *chan }),
             ChanReq::ChanClose { chan } => Ok(ChanReq::ChanClose { chan: *chan }),
+            ChanReq::ChanClosing { chan } => Ok(ChanReq::ChanClosing { chan: *chan }),
+            ChanReq::Alt { ending, entries } => Ok(ChanReq::Alt {
+                ending: ending.copied(alloc)?,
+                entries: entries.copied(alloc)?,
+            }),
             ChanReq::Send { chan, value } => Ok(ChanReq::Send {
                 chan: *chan,
                 value: value.copied(alloc)?,
@@ -163,12 +243,44 @@ impl Datum for ChanReq {
                 keep: *keep,
                 chan: *chan,
             }),
+            ChanReq::NbSend { chan, value } => Ok(ChanReq::NbSend {
+                chan: *chan,
+                value: value.copied(alloc)?,
+            }),
+            ChanReq::NbRecv { keep, chan } => Ok(ChanReq::NbRecv {
+                keep: *keep,
+                chan: *chan,
+            }),
+            ChanReq::SendUl { chan, n } => Ok(ChanReq::SendUl { chan: *chan, n: *n }),
+            ChanReq::RecvUl { chan } => Ok(ChanReq::RecvUl { chan: *chan }),
+            ChanReq::NbSendUl { chan, n } => Ok(ChanReq::NbSendUl { chan: *chan, n: *n }),
+            ChanReq::NbRecvUl { chan } => Ok(ChanReq::NbRecvUl { chan: *chan }),
+            ChanReq::ChanPrint { chan, text } => Ok(ChanReq::ChanPrint {
+                chan: *chan,
+                text: text.copied(alloc)?,
+            }),
         }
     }
 
     fn is_same(&self, other: &ChanReq) -> bool {
         match (self, other) {
+            (
+                ChanReq::ChanCreate { cap, elsize },
+                ChanReq::ChanCreate {
+                    cap: other_cap,
+                    elsize: other_elsize,
+                },
+            ) => cap == other_cap && elsize == other_elsize,
+            (ChanReq::ChanFree { chan: a }, ChanReq::ChanFree { chan: b }) => a == b,
             (ChanReq::ChanClose { chan: a }, ChanReq::ChanClose { chan: b }) => a == b,
+            (ChanReq::ChanClosing { chan: a }, ChanReq::ChanClosing { chan: b }) => a == b,
+            (
+                ChanReq::Alt { ending, entries },
+                ChanReq::Alt {
+                    ending: other_ending,
+                    entries: other_entries,
+                },
+            ) => ending.is_same(other_ending) && entries.is_same(other_entries),
             (
                 ChanReq::Send { chan, value },
                 ChanReq::Send {
@@ -183,6 +295,43 @@ impl Datum for ChanReq {
                     chan: other_chan,
                 },
             ) => keep == other_keep && chan == other_chan,
+            (
+                ChanReq::NbSend { chan, value },
+                ChanReq::NbSend {
+                    chan: other_chan,
+                    value: other_value,
+                },
+            ) => chan == other_chan && value.is_same(other_value),
+            (
+                ChanReq::NbRecv { keep, chan },
+                ChanReq::NbRecv {
+                    keep: other_keep,
+                    chan: other_chan,
+                },
+            ) => chan == other_chan && keep == other_keep,
+            (
+                ChanReq::SendUl { chan, n },
+                ChanReq::SendUl {
+                    chan: other_chan,
+                    n: other_n,
+                },
+            ) => chan == other_chan && n == other_n,
+            (ChanReq::RecvUl { chan: a }, ChanReq::RecvUl { chan: b }) => a == b,
+            (
+                ChanReq::NbSendUl { chan, n },
+                ChanReq::NbSendUl {
+                    chan: other_chan,
+                    n: other_n,
+                },
+            ) => chan == other_chan && n == other_n,
+            (ChanReq::NbRecvUl { chan: a }, ChanReq::NbRecvUl { chan: b }) => a == b,
+            (
+                ChanReq::ChanPrint { chan, text },
+                ChanReq::ChanPrint {
+                    chan: other_chan,
+                    text: other_text,
+                },
+            ) => chan == other_chan && text.is_same(other_text),
             _ => false,
         }
     }

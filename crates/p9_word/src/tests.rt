@@ -1,6 +1,7 @@
 use crate::{
-    Answer, ChanReq, ChanSetup, Datum, Effect, Entry, Event, IoAnswer, IoCall, IoReq, Msg,
-    NoMemory, Reply, Request, Room, Seat, Seq, Setup, ThreadReq, ThreadSetup, Trail,
+    AltEntry, AltOp, Answer, ChanReq, ChanSetup, Datum, Effect, Ending, Entry, Event, IoAnswer,
+    IoCall, IoReq, Msg, NoMemory, Reply, Request, Room, Seat, Seq, Setup, Slot, ThreadReq,
+    ThreadSetup, Trail,
 };
 use std::alloc::Global;
 use std::test::Fail;
@@ -102,23 +103,86 @@ fn thread_requests(alloc: Global) -> Result<Room<Request>, NoMemory> {
     Ok(all)
 }
 
+/// Entries of alts, each of which differs from the first in one field.
+fn entries(alloc: Global) -> Result<Seq<AltEntry>, NoMemory> {
+    let value = Msg::from_slice(alloc, b"a message that is shared")?;
+    let mut all = Room::new(alloc);
+    all.reserve(7)?;
+    for (chan, op, err, slot) in [
+        (1, AltOp::Rcv, false, Slot::Null),
+        (2, AltOp::Rcv, false, Slot::Null),
+        (1, AltOp::Snd, false, Slot::Null),
+        (1, AltOp::Nop, false, Slot::Null),
+        (1, AltOp::Rcv, true, Slot::Null),
+        (1, AltOp::Rcv, false, Slot::Keep),
+        (1, AltOp::Rcv, false, Slot::Give(value)),
+    ] {
+        if all.spare() > 0 {
+            all.push(AltEntry {
+                chan,
+                op,
+                err,
+                slot,
+            });
+        }
+    }
+    Ok(all.into_seq())
+}
+
+fn chan_requests(alloc: Global) -> Result<Room<ChanReq>, NoMemory> {
+    let text = Msg::from_slice(alloc, b"a message that is shared")?;
+    let mut all = Room::new(alloc);
+    all.reserve(16)?;
+    for request in [
+        ChanReq::ChanCreate { cap: 1, elsize: 2 },
+        ChanReq::ChanFree { chan: 1 },
+        ChanReq::ChanClose { chan: 1 },
+        ChanReq::ChanClosing { chan: 1 },
+        ChanReq::Alt {
+            ending: Ending::End,
+            entries: entries(alloc)?,
+        },
+        ChanReq::Alt {
+            ending: Ending::NoBlk,
+            entries: entries(alloc)?,
+        },
+        ChanReq::Send {
+            chan: 1,
+            value: Some(text.copy()?),
+        },
+        ChanReq::Send {
+            chan: 1,
+            value: None,
+        },
+        ChanReq::Recv {
+            keep: true,
+            chan: 1,
+        },
+        ChanReq::NbSend {
+            chan: 1,
+            value: None,
+        },
+        ChanReq::NbRecv {
+            keep: true,
+            chan: 1,
+        },
+        ChanReq::SendUl { chan: 1, n: 2 },
+        ChanReq::RecvUl { chan: 1 },
+        ChanReq::NbSendUl { chan: 1, n: 2 },
+        ChanReq::NbRecvUl { chan: 1 },
+        ChanReq::ChanPrint { chan: 1, text },
+    ] {
+        if all.spare() > 0 {
+            all.push(request);
+        }
+    }
+    Ok(all)
+}
+
 fn requests(alloc: Global) -> Result<Room<Request>, NoMemory> {
     let value = Msg::from_slice(alloc, b"a message that is shared")?;
     let mut all = thread_requests(alloc)?;
-    all.reserve(7)?;
-    all.push(Request::Chan(ChanReq::ChanClose { chan: 1 }));
-    all.push(Request::Chan(ChanReq::Send {
-        chan: 1,
-        value: Some(value.copy()?),
-    }));
-    all.push(Request::Chan(ChanReq::Send {
-        chan: 1,
-        value: None,
-    }));
-    all.push(Request::Chan(ChanReq::Recv {
-        keep: true,
-        chan: 1,
-    }));
+    all.reserve(3)?;
     all.push(Request::Io(IoReq::IoProc { k: 1 }));
     all.push(Request::Io(IoReq::IoRun {
         k: 1,
@@ -131,7 +195,7 @@ fn requests(alloc: Global) -> Result<Room<Request>, NoMemory> {
 fn replies(alloc: Global) -> Result<Room<Reply>, NoMemory> {
     let value = Msg::from_slice(alloc, b"a message that is shared")?;
     let mut all = Room::new(alloc);
-    all.reserve(10)?;
+    all.reserve(12)?;
     all.push(Reply::Waits);
     all.push(Reply::Ended);
     all.push(Reply::Begin(1, 2, 3));
@@ -142,6 +206,16 @@ fn replies(alloc: Global) -> Result<Room<Reply>, NoMemory> {
             msg: value.copy()?,
         },
     ));
+    all.push(Reply::Turn(
+        1,
+        Answer::Index {
+            err: false,
+            i: 1,
+            from: Some(4),
+            msg: value.copy()?,
+        },
+    ));
+    all.push(Reply::Now(Answer::NoBlock));
     all.push(Reply::Turn(1, Answer::Io(IoAnswer::Bytes(value.copy()?))));
     all.push(Reply::Now(Answer::Number(5)));
     all.push(Reply::Now(Answer::Minus));
@@ -197,6 +271,38 @@ fn data_is_equal_to_its_copy_alone(rt: HostRuntime) -> Result<(), Fail> {
             failed: true
         })
     );
+    Ok(())
+}
+
+#[test]
+fn requests_on_channels_are_equal_to_their_copies_alone(rt: HostRuntime) -> Result<(), Fail> {
+    let alloc = rt.alloc();
+    let entries = lasts(entries(alloc))?;
+    for entry in entries.as_slice() {
+        let copy = lasts(entry.copied(alloc))?;
+        assert!(rt;
+            entries
+                .as_slice()
+                .iter()
+                .filter(|e| e.is_same(&copy))
+                .count()
+                == 1
+        );
+    }
+    let requests = lasts(chan_requests(alloc))?;
+    for (i, request) in requests.as_slice().iter().enumerate() {
+        let copy = lasts(request.copied(alloc))?;
+        assert!(rt; copy.is_same(request), "request {i}");
+        assert!(rt;
+            requests
+                .as_slice()
+                .iter()
+                .filter(|r| r.is_same(&copy))
+                .count()
+                == 1
+        );
+    }
+    assert!(rt; !lasts(Ending::End.copied(alloc))?.is_same(&Ending::NoBlk));
     Ok(())
 }
 

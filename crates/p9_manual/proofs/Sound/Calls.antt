@@ -3,7 +3,6 @@ use Rattle.std.proofs.Common.{◌≡◌, ◌≢◌, inl, inr, ℕ, suc, ◌+◌,
 use Rattle.std.specs.Prelude.{option_map}
 use Rattle.std.specs.List.{filter}
 use Rattle.std.proofs.lemmas.Bool.{cases_eq}
-use Rattle.std.proofs.lemmas.Option.{some_pair_parts}
 use Rattle.std.proofs.lemmas.List.Elements.{filter-append}
 use Rattle.std.proofs.lemmas.List.Concat.{flat_map-append}
 use Rattle.p9_word.specs.declared.request.Request.{Request}
@@ -17,38 +16,18 @@ use Rattle.p9_manual.specs.declared.state.Ioproc.{Ioproc}
 use Rattle.p9_manual.specs.declared.state.Ioproc.TheVariants.{Unmade, Idle, Posted, Begun, Closed}
 use Rattle.p9_manual.specs.Effects.{message_length}
 use Rattle.p9_manual.specs.Ends.{let_go}
-use Rattle.p9_manual.specs.State.{by_id, changed, pick, behind, waits_without}
+use Rattle.p9_manual.specs.Offers.{parties}
+use Rattle.p9_manual.specs.State.{by_id, changed, waits_without}
 use Rattle.p9_manual.specs.Standing.{StandOnce, times, place_of}
 use Rattle.p9_manual.specs.Sound.{CallsMatch, call_in, call_at, waiting_calls, call_of, message_at}
 use Rattle.p9_manual.proofs.Sound.Counts.{filter_none, times-append}
 use Rattle.p9_manual.proofs.Sound.Places.{by_id-changed_same, by_id-changed_other, by_id-map}
+use Rattle.p9_manual.proofs.Sound.Parties.{is_tid, party_calls}
 use Rattle.p9_manual.proofs.Sound.Stand.{eqb_same, eqb_other, waits_once}
 
 -- one more wait
 calls_push : (k : ℕ) (waits : List Waiter) (w : Waiter) → waiting_calls k (waits ++ w ∷ []) ≡ waiting_calls k waits ++ call_at k w
 calls_push k waits w = flat_map-append (call_at k) waits (w ∷ []) ∙ ap (λ cs. waiting_calls k waits ++ cs) (append-nil (call_at k w))
-
-pick_step : (k : ℕ) (b : Bool) (x y : Waiter) (xs rest : List Waiter) (r : Option (Waiter × List Waiter)) → (b ≡ true → call_at k x ≡ []) → ((z : Waiter) (others : List Waiter) → r ≡ Some (z, others) → waiting_calls k others ≡ waiting_calls k xs) → cond b (Some (x, xs)) (behind x r) ≡ Some (y, rest) → waiting_calls k rest ≡ call_at k x ++ waiting_calls k xs
-pick_step k true x y xs rest r t h e = let parts = some_pair_parts x y xs rest e in rw (t refl) (ap (waiting_calls k) (sym parts.1))
-pick_step k false x y xs rest None t h e = cc
-pick_step k false x y xs rest (Some found) t h e =
-    let parts = some_pair_parts found.0 y (x ∷ found.1) rest e in
-    let b : x ∷ found.1 ≡ rest = parts.1 in
-    rw (← b) (ap (λ cs. call_at k x ++ cs) (h found.0 found.1 refl))
-
--- the picked wait is in no call at ioproc k
-calls_pick : (k : ℕ) (p : Waiter → Bool) → ((x : Waiter) → p x ≡ true → call_at k x ≡ []) → (waits : List Waiter) (w : Waiter) (others : List Waiter) → pick p waits ≡ Some (w, others) → waiting_calls k others ≡ waiting_calls k waits
-calls_pick k p h [] w others e = cc
-calls_pick k p h (x ∷ xs) w others e = pick_step k (p x) x w xs others (pick p xs) (h x) (calls_pick k p h xs) e
-
-filter_step : (k : ℕ) (b : Bool) (x : Waiter) (fs xs : List Waiter) → (b ≡ true → call_at k x ≡ []) → waiting_calls k fs ≡ waiting_calls k xs → waiting_calls k (cond (not b) (x ∷ fs) fs) ≡ call_at k x ++ waiting_calls k xs
-filter_step k true x fs xs t e = rw (t refl) e
-filter_step k false x fs xs t e = ap (λ cs. call_at k x ++ cs) e
-
--- nor is one that is taken out
-calls_filter : (k : ℕ) (p : Waiter → Bool) → ((x : Waiter) → p x ≡ true → call_at k x ≡ []) → (waits : List Waiter) → waiting_calls k (filter (λ w. not (p w)) waits) ≡ waiting_calls k waits
-calls_filter k p h [] = refl
-calls_filter k p h (x ∷ xs) = filter_step k (p x) x (filter (λ w. not (p w)) xs) xs (h x) (calls_filter k p h xs)
 
 -- the call isn't for t
 abbrev is_not_for : ℕ → ℕ × IoCall → Bool
@@ -107,11 +86,9 @@ calls_apart j k t ne (w ∷ ws) =
 pub same_calls : (ioprocs : List Ioproc) (waits others : List Waiter) → ((k : ℕ) → waiting_calls k others ≡ waiting_calls k waits) → CallsMatch ioprocs waits → CallsMatch ioprocs others
 same_calls ioprocs waits others same match' = record { calls = λ k. same k ∙ match'.calls k; messages = match'.messages }
 
-pub picked_match : (ioprocs : List Ioproc) (waits : List Waiter) (p : Waiter → Bool) (w : Waiter) (others : List Waiter) → ((k : ℕ) (x : Waiter) → p x ≡ true → call_at k x ≡ []) → CallsMatch ioprocs waits → pick p waits ≡ Some (w, others) → CallsMatch ioprocs others
-picked_match ioprocs waits p w others h match' e = same_calls ioprocs waits others (λ k. calls_pick k p (h k) waits w others e) match'
-
-pub filtered_match : (ioprocs : List Ioproc) (waits : List Waiter) (p : Waiter → Bool) → ((k : ℕ) (x : Waiter) → p x ≡ true → call_at k x ≡ []) → CallsMatch ioprocs waits → CallsMatch ioprocs (filter (λ w. not (p w)) waits)
-filtered_match ioprocs waits p h match' = same_calls ioprocs waits (filter (λ w. not (p w)) waits) (λ k. calls_filter k p (h k) waits) match'
+-- without the waits of a thread that waits in no call
+pub without_match : (ioprocs : List Ioproc) (waits : List Waiter) (t : ℕ) → times (λ w. eqb w.tid t) waits ≤ times (is_tid t) (parties waits) → CallsMatch ioprocs waits → CallsMatch ioprocs (waits_without t waits)
+without_match ioprocs waits t h match' = same_calls ioprocs waits (waits_without t waits) (λ k. party_calls k t waits h) match'
 
 -- one more wait that is in no call
 pub pushed_match : (ioprocs : List Ioproc) (waits : List Waiter) (w : Waiter) → ((k : ℕ) → call_at k w ≡ []) → CallsMatch ioprocs waits → CallsMatch ioprocs (waits ++ w ∷ [])

@@ -1,7 +1,7 @@
--- Counts over lists that are picked from, filtered and added to.
-use Rattle.std.proofs.Common.{◌≡◌, ℕ, zero, suc, ◌+◌, Bool, true, false, not, cond, ◌||◌, List, [], ◌∷◌, ◌++◌, Option, Some, None, refl, ap, ◌∙◌, arith}
-use Rattle.std.specs.Prelude.{All}
-use Rattle.std.specs.List.{filter, list_any, AllByRecursion}
+-- Counts over lists that are picked from, filtered, searched and added to.
+use Rattle.std.proofs.Common.{◌≡◌, ℕ, zero, suc, ◌+◌, ◌≤◌, Bool, true, false, not, cond, ◌||◌, List, [], ◌∷◌, ◌++◌, Option, Some, None, refl, ap, subst, arith}
+use Rattle.std.specs.Prelude.{All, slice_get}
+use Rattle.std.specs.List.{filter, find, list_any, AllByRecursion}
 use Rattle.std.proofs.lemmas.Option.{some_pair_parts}
 use Rattle.std.proofs.lemmas.List.Elements.{All-from_recursion, recursion_from_All}
 use Rattle.p9_manual.specs.Standing.{times}
@@ -41,36 +41,25 @@ pub pick_passes : {A : Type 0} (p : A → Bool) → (xs : List A) (y : A) (rest 
 pick_passes p [] y rest e = cc
 pick_passes p (x ∷ xs) y rest e = passes_step p (p x) x y xs rest (pick p xs) refl (pick_passes p xs) e
 
-none_picked_step : {A : Type 0} (b : Bool) (x : A) (xs : List A) (r : Option (A × List A)) (n : ℕ) → (r ≡ None → n ≡ 0) → cond b (Some (x, xs)) (behind x r) ≡ None → cond b 1 0 + n ≡ 0
-none_picked_step true x xs r n h e = cc
-none_picked_step false x xs None n h e = let z = h refl in omega arith
-none_picked_step false x xs (Some found) n h e = cc
-
--- where nothing is picked nothing passes
-pub none_picked : {A : Type 0} (p : A → Bool) → (xs : List A) → pick p xs ≡ None → times p xs ≡ 0
-none_picked p [] e = refl
-none_picked p (x ∷ xs) e = none_picked_step (p x) x xs (pick p xs) (times p xs) (none_picked p xs) e
-
-every_step : {A : Type 0} (P : A → Type 0) (b : Bool) (x y : A) (xs rest : List A) (r : Option (A × List A)) → P x → AllByRecursion P xs → ((z : A) (others : List A) → r ≡ Some (z, others) → AllByRecursion P others) → cond b (Some (x, xs)) (behind x r) ≡ Some (y, rest) → AllByRecursion P rest
-every_step P true x y xs rest r here later h e = let parts = some_pair_parts x y xs rest e in rw (← parts.1) later
-every_step P false x y xs rest None here later h e = cc
-every_step P false x y xs rest (Some found) here later h e =
-    let parts = some_pair_parts found.0 y (x ∷ found.1) rest e in
-    let b : x ∷ found.1 ≡ rest = parts.1 in
-    rw (← b) (here, h found.0 found.1 refl)
-
-every_pick : {A : Type 0} (P : A → Type 0) (p : A → Bool) → (xs : List A) (y : A) (rest : List A) → AllByRecursion P xs → pick p xs ≡ Some (y, rest) → AllByRecursion P rest
-every_pick P p [] y rest h e = cc
-every_pick P p (x ∷ xs) y rest h e = every_step P (p x) x y xs rest (pick p xs) h.0 h.1 (λ z others f. every_pick P p xs z others h.1 f) e
-
--- what holds of all holds of the others
-pub All-pick : {A : Type 0} (P : A → Type 0) (p : A → Bool) → (xs : List A) (y : A) (rest : List A) → All P xs → pick p xs ≡ Some (y, rest) → All P rest
-All-pick P p xs y rest h e = All-from_recursion P rest (every_pick P p xs y rest (recursion_from_All P xs h) e)
-
 every_changed : {A : Type 0} (P : A → Type 0) (f : A → A) → ((x : A) → P x → P (f x)) → (xs : List A) (i : ℕ) → AllByRecursion P xs → AllByRecursion P (changed f xs i)
 every_changed P f k [] i h = tt
 every_changed P f k (x ∷ xs) zero h = (k x h.0, h.1)
 every_changed P f k (x ∷ xs) (suc i) h = (h.0, every_changed P f k xs i h.1)
+
+-- what holds of all holds of the one at a place
+pub held_at : {A : Type 0} (P : A → Type 0) → (xs : List A) (i : ℕ) (x : A) → AllByRecursion P xs → slice_get xs i ≡ Some x → P x
+held_at P [] i x h e = cc
+held_at P (y ∷ ys) zero x h e = let same : y ≡ x = cc in subst P same h.0
+held_at P (y ∷ ys) (suc i) x h e = held_at P ys i x h.1 e
+
+every_changed_at : {A : Type 0} (P : A → Type 0) (f : A → A) → (xs : List A) (i : ℕ) → ((x : A) → slice_get xs i ≡ Some x → P (f x)) → AllByRecursion P xs → AllByRecursion P (changed f xs i)
+every_changed_at P f [] i k h = tt
+every_changed_at P f (x ∷ xs) zero k h = (k x refl, h.1)
+every_changed_at P f (x ∷ xs) (suc i) k h = (h.0, every_changed_at P f xs i k h.1)
+
+-- what holds of all, and of the one that was changed, holds of all then
+pub All-changed_at : {A : Type 0} (P : A → Type 0) (f : A → A) (xs : List A) (i : ℕ) → ((x : A) → slice_get xs i ≡ Some x → P (f x)) → All P xs → All P (changed f xs i)
+All-changed_at P f xs i k h = All-from_recursion P (changed f xs i) (every_changed_at P f xs i k (recursion_from_All P xs h))
 
 -- what f keeps holds of all after one was changed by f
 pub All-changed : {A : Type 0} (P : A → Type 0) (f : A → A) → ((x : A) → P x → P (f x)) → (xs : List A) (i : ℕ) → All P xs → All P (changed f xs i)
@@ -93,15 +82,9 @@ pub times_parts : {A : Type 0} (q p : A → Bool) → (ws : List A) → times q 
 times_parts q p [] = refl
 times_parts q p (w ∷ ws) = split_step q (p w) w (filter p ws) (filter (λ x. not (p x)) ws) ws (times_parts q p ws)
 
-pub times-split : {A : Type 0} (q p : A → Bool) (ws : List A) → times q (filter p ws ++ filter (λ w. not (p w)) ws) ≡ times q ws
-times-split q p ws = times-append q (filter p ws) (filter (λ w. not (p w)) ws) ∙ times_parts q p ws
-
 -- none passes of a part of a list of which none passes
 pub none_kept : {A : Type 0} (q p : A → Bool) (ws : List A) → times q ws ≡ 0 → times q (filter (λ w. not (p w)) ws) ≡ 0
 none_kept q p ws h = let k = times_parts q p ws in omega (arith, k)
-
-pub none_of_others : {A : Type 0} (p q : A → Bool) (xs : List A) (y : A) (rest : List A) → pick p xs ≡ Some (y, rest) → times q xs ≡ 0 → times q rest ≡ 0
-none_of_others p q xs y rest e h = let k = times_pick p q xs y rest e in omega (arith, k)
 
 cleared_step : {A : Type 0} (q : A → Bool) (b : Bool) (w : A) (ws : List A) → q w ≡ b → times q ws ≡ 0 → times q (cond (not b) (w ∷ ws) ws) ≡ 0
 cleared_step q true w ws h e = e
@@ -128,3 +111,30 @@ none_step false c n h k = let z = k h in omega arith
 pub times_none : {A : Type 0} (q : A → Bool) → (xs : List A) → list_any q xs ≡ false → times q xs ≡ 0
 times_none q [] h = refl
 times_none q (x ∷ xs) h = none_step (q x) (list_any q xs) (times q xs) h (times_none q xs)
+
+found_step : {A : Type 0} (p q : A → Bool) (b : Bool) (x y : A) (r : Option A) (n : ℕ) → p x ≡ b → q y ≡ true → (r ≡ Some y → (p y ≡ true) × (1 ≤ n)) → cond b (Some x) r ≡ Some y → (p y ≡ true) × (1 ≤ cond (q x) 1 0 + n)
+found_step p q true x y r n h t k e = let same : x ≡ y = cc in (rw (← same) h, rw (same, t) (omega arith))
+found_step p q false x y r n h t k e = let found = k e in (found.0, omega (arith, found.1))
+
+-- the first item that passes does, and it is one of the items
+pub found_counts : {A : Type 0} (p q : A → Bool) → (xs : List A) (y : A) → q y ≡ true → find p xs ≡ Some y → (p y ≡ true) × (1 ≤ times q xs)
+found_counts p q [] y t e = cc
+found_counts p q (x ∷ xs) y t e = found_step p q (p x) x y (find p xs) (times q xs) refl t (found_counts p q xs y t) e
+
+none_found_step : {A : Type 0} (b : Bool) (x : A) (r : Option A) (n : ℕ) → (r ≡ None → n ≡ 0) → cond b (Some x) r ≡ None → cond b 1 0 + n ≡ 0
+none_found_step true x r n h e = cc
+none_found_step false x r n h e = let z = h e in omega arith
+
+-- where none is found none passes
+pub none_found : {A : Type 0} (p : A → Bool) → (xs : List A) → find p xs ≡ None → times p xs ≡ 0
+none_found p [] e = refl
+none_found p (x ∷ xs) e = none_found_step (p x) x (find p xs) (times p xs) (none_found p xs) e
+
+one_fewer : (a b : Bool) → (a ≡ true → b ≡ true) → cond a 1 0 ≤ cond b 1 0
+one_fewer true b h = rw (h refl) (omega arith)
+one_fewer false b h = omega arith
+
+-- no more pass a test than a weaker one
+pub times_fewer : {A : Type 0} (q p : A → Bool) → ((x : A) → q x ≡ true → p x ≡ true) → (xs : List A) → times q xs ≤ times p xs
+times_fewer q p h [] = omega arith
+times_fewer q p h (x ∷ xs) = let one = one_fewer (q x) (p x) (h x) in omega (arith, one, times_fewer q p h xs)

@@ -72,6 +72,8 @@ with_thread_sound setup s p program arg group here one sound =
       members = All-push (IsThreadIn s.opened setup.programs) s.threads (fresh p program arg group) sound.members (record { proc_no = here; program = one });
       opened = sound.opened;
       waits_right = sound.waits_right;
+      within = sound.within;
+      order = sound.order;
       calls = sound.calls;
     }
 
@@ -89,6 +91,8 @@ opened_sound setup s room sound =
           (λ x m. record { proc_no = record { from = m.proc_no.from; to = omega (arith, m.proc_no.to) }; program = m.program }) s.threads sound.members;
       opened = room;
       waits_right = sound.waits_right;
+      within = sound.within;
+      order = sound.order;
       calls = sound.calls;
     }
 
@@ -115,17 +119,17 @@ not_false false h = cc
 place_left : (n m : ℕ) → ltb n m ≡ true → n + 1 ≤ m
 place_left n m h = search (rules, tests)
 
-pub create_thread_fine : (setup : Setup) (t program arg : ℕ) (s : State) (caller : Thread) → by_id s.threads t ≡ Some caller → IsSound setup s → IsFine setup (create_thread setup program arg s caller)
+pub create_thread_fine : (setup : Setup) (t program arg : ℕ) (s : State) (caller : Thread) → by_id s.threads t ≡ Some caller → IsSound setup s → IsFine setup s.entries (create_thread setup program arg s caller)
 create_thread_fine setup t program arg s caller at sound =
-    if_fine setup (is_no_program setup program) _ _ (λ _. bad_fine setup s sound)
-    (λ there. if_fine setup (is_full s) _ _ (λ _. now_fine setup s Minus sound)
+    if_fine setup s.entries (is_no_program setup program) _ _ (λ _. bad_fine setup s sound)
+    (λ there. if_fine setup s.entries (is_full s) _ _ (λ _. now_fine setup s Minus sound)
     (λ _. now_fine setup _ (Number (length s.threads + 1))
     (with_thread_sound setup s caller.proc_no program arg caller.group (member_at s.opened setup.programs s.threads t caller sound.members at).proc_no (program_is setup program there) sound)))
 
-pub create_proc_fine : (setup : Setup) (t program arg : ℕ) (s : State) (caller : Thread) → IsSound setup s → RunsIn s t → IsFine setup (create_proc setup t program arg s caller)
+pub create_proc_fine : (setup : Setup) (t program arg : ℕ) (s : State) (caller : Thread) → IsSound setup s → RunsIn s t → IsFine setup s.entries (create_proc setup t program arg s caller)
 create_proc_fine setup t program arg s caller sound runs =
-    if_fine setup (is_no_program setup program) _ _ (λ _. bad_fine setup s sound)
-    (λ there. if_fine setup (is_full s || not (ltb s.opened setup.places)) _ _ (λ _. now_fine setup s Minus sound)
+    if_fine setup s.entries (is_no_program setup program) _ _ (λ _. bad_fine setup s sound)
+    (λ there. if_fine setup s.entries (is_full s || not (ltb s.opened setup.places)) _ _ (λ _. now_fine setup s Minus sound)
     (λ left.
     let room = place_left s.opened setup.places (not_false (ltb s.opened setup.places) (or_false (is_full s) (not (ltb s.opened setup.places)) left).1) in
     done_fine setup _ t (Number (length s.threads + 1))

@@ -1,5 +1,5 @@
 -- The ends of threads, one or all of them, keep a sound state sound.
-use Rattle.std.proofs.Common.{◌≡◌, ℕ, ◌≤◌, eqb, List, [], ◌∷◌, map, Option, Some, None, refl, ap, sym, ◌∙◌, arith}
+use Rattle.std.proofs.Common.{◌≡◌, ℕ, ◌≤◌, not, eqb, List, [], ◌∷◌, map, Option, Some, None, refl, ap, sym, ◌∙◌, arith}
 use Rattle.std.specs.Prelude.{option_map}
 use Rattle.std.proofs.lemmas.List.Elements.{All-map, All-weaker}
 use Rattle.p9_word.specs.declared.setup.Setup.{Setup}
@@ -14,8 +14,9 @@ use Rattle.p9_manual.specs.Standing.{StandOnce, times, place_of, place_in, times
 use Rattle.p9_manual.specs.Sound.{IsSound, IsThreadIn, CallsMatch, call_of, message_at}
 use Rattle.p9_manual.proofs.Sound.Places.{by_id-map}
 use Rattle.p9_manual.proofs.Sound.Running.{at_rest}
+use Rattle.p9_manual.proofs.Sound.Order.{filtered_order, nobody_in_order}
 use Rattle.p9_manual.proofs.Sound.Stand.{ended_stands, members_placed}
-use Rattle.p9_manual.proofs.Sound.Waits.{filtered_rightly, nobody_rightly}
+use Rattle.p9_manual.proofs.Sound.Waits.{without_rightly, nobody_rightly}
 use Rattle.p9_manual.proofs.Sound.Calls.{ended_match}
 use Rattle.p9_manual.proofs.Sound.Outcomes.{RunsIn}
 
@@ -25,7 +26,9 @@ ended_sound setup s t sound runs =
       stand = ended_stands s.threads s.line s.waits t sound.stand runs;
       members = members_placed s.opened setup.programs t Ended s.threads sound.members;
       opened = sound.opened;
-      waits_right = filtered_rightly s.chans s.waits (λ w. eqb w.tid t) sound.waits_right;
+      waits_right = without_rightly s.chans s.waits t sound.waits_right;
+      within = sound.within;
+      order = filtered_order s.entries s.waits (λ w. not (eqb w.tid t)) sound.order;
       calls = ended_match t s.ioprocs s.waits sound.calls;
     }
 
@@ -89,5 +92,7 @@ all_ended_sound setup s sound =
           (All-weaker (IsThreadIn s.opened setup.programs) (λ x. IsThreadIn s.opened setup.programs (at_end x)) (λ x m. record { proc_no = m.proc_no; program = m.program }) s.threads sound.members);
       opened = sound.opened;
       waits_right = nobody_rightly s.chans;
+      within = sound.within;
+      order = nobody_in_order s.entries;
       calls = nobody_match s.ioprocs sound.calls.messages;
     }

@@ -59,5 +59,7 @@ with_changed_sound setup f t s leaves sound =
       members = All-changed (IsThreadIn s.opened setup.programs) f (member_left f leaves s.opened setup.programs) s.threads (t - 1) sound.members;
       opened = sound.opened;
       waits_right = sound.waits_right;
+      within = sound.within;
+      order = sound.order;
       calls = sound.calls;
     }

@@ -1,11 +1,12 @@
 -- Each step keeps a sound state sound, one that makes no entry changes nothing, and the first state is sound.
-use Rattle.std.proofs.Common.{◌≡◌, zero-add, ℕ, zero, suc, ◌+◌, ◌<◌, true, false, eqb, List, [], ◌∷◌, map, replicate, Option, Some, None, refl, subst, sym, arith, rules, tests}
+use Rattle.std.proofs.Common.{◌≡◌, zero-add, ℕ, zero, suc, ◌+◌, ◌<◌, Bool, true, false, cond, eqb, List, [], ◌∷◌, map, replicate, Option, Some, None, refl, subst, sym, arith, rules, tests}
 use Rattle.std.specs.Prelude.{slice_get, All}
-use Rattle.std.specs.List.{fold}
-use Rattle.std.proofs.lemmas.List.Elements.{All-map, All-weaker}
+use Rattle.std.specs.List.{fold, AllByRecursion}
+use Rattle.std.proofs.lemmas.List.Elements.{All-from_recursion, All-map, All-weaker}
 use Rattle.p9_word.specs.Setup.{IsValid, IsThreadOf, IsBetween}
 use Rattle.p9_word.specs.declared.trail.Reply.{Reply}
 use Rattle.p9_word.specs.declared.setup.Setup.{Setup}
+use Rattle.p9_word.specs.declared.setup.ChanSetup.{ChanSetup}
 use Rattle.p9_word.specs.declared.setup.ThreadSetup.{ThreadSetup}
 use Rattle.p9_word.specs.declared.request.Request.{Request}
 use Rattle.p9_word.specs.declared.request.Request.TheVariants.{Thread as ThreadRequest, Chan as ChanRequest, Io as IoRequest}
@@ -23,17 +24,18 @@ use Rattle.p9_manual.specs.State.{State, Outcome, by_id}
 use Rattle.p9_manual.specs.Step.{served, called, outcome, step, counted, makes_entry}
 use Rattle.p9_manual.specs.History.{state_after, begin_state, after_entry, ids_from, new_thread, new_channel}
 use Rattle.p9_manual.specs.Standing.{times, place_of, place_in, times_in_line, times_in_waits}
-use Rattle.p9_manual.specs.Sound.{IsSound, IsThreadIn, CallsMatch, call_of, message_at}
+use Rattle.p9_manual.specs.Sound.{IsSound, IsWithin, IsThreadIn, CallsMatch, call_of, message_at}
 use Rattle.p9_manual.proofs.Sound.Places.{by_id-suc}
 use Rattle.p9_manual.proofs.Sound.Running.{at_rest, place_runs}
+use Rattle.p9_manual.proofs.Sound.Order.{nobody_in_order}
 use Rattle.p9_manual.proofs.Sound.Waits.{nobody_rightly}
-use Rattle.p9_manual.proofs.Sound.Outcomes.{IsFine, IsSafe, BeginsOneOf, RunsIn, fine_safe, same_safe, if_safe}
+use Rattle.p9_manual.proofs.Sound.Outcomes.{IsFine, IsSafe, at_entries, BeginsOneOf, RunsIn, fine_safe, same_safe, if_safe}
 use Rattle.p9_manual.proofs.Sound.Threads.{thread_call_fine}
 use Rattle.p9_manual.proofs.Sound.Chans.{chan_call_fine}
 use Rattle.p9_manual.proofs.Sound.Ioprocs.{io_call_fine, io_event_safe}
 use Rattle.p9_manual.proofs.Sound.Next.{next_event_safe}
 
-served_fine : (setup : Setup) (t : ℕ) (r : Request) (s : State) → IsSound setup s → RunsIn s t → IsFine setup (served setup t r s)
+served_fine : (setup : Setup) (t : ℕ) (r : Request) (s : State) → IsSound setup s → RunsIn s t → IsFine setup s.entries (served setup t r s)
 unfolding served
 served_fine setup t (ThreadRequest r) s sound runs = thread_call_fine setup t r s sound runs
 served_fine setup t (ChanRequest r) s sound runs = chan_call_fine setup t r s sound runs
@@ -57,13 +59,15 @@ outcome_safe setup (IoSeat k) (IoDid effect) s sound = io_event_safe setup k s (
 outcome_safe setup (IoSeat k) (Call t r) s sound = same_safe setup s Stray refl sound
 outcome_safe setup (IoSeat k) Next s sound = same_safe setup s Stray refl sound
 
-counted_sound : (setup : Setup) (n : ℕ) (o : Outcome) → IsSound setup o.state → IsSound setup (counted n o).state
-counted_sound setup n o sound =
-    record { stand = sound.stand; members = sound.members; opened = sound.opened; waits_right = sound.waits_right; calls = sound.calls }
+-- where an entry is made the state is that after it, and else as it was
+by_entry : (setup : Setup) (s : State) (o : Outcome) (b : Bool) → makes_entry o.reply ≡ b → IsSound setup s → IsSafe setup s o → IsSound setup (at_entries (cond b (s.entries + 1) s.entries) o.state)
+by_entry setup s o true e sound safe = safe.sound
+by_entry setup s o false e sound safe = subst (λ (x : State). IsSound setup (at_entries s.entries x)) (sym (safe.quiet e)) sound
 
 pub step_sound : (setup : Setup) (seat : Seat) (event : Event) (s : State) → IsSound setup s → IsSound setup (step setup seat event s).state
 unfolding step
-step_sound setup seat event s sound = counted_sound setup s.entries (outcome setup seat event s) (outcome_safe setup seat event s sound).sound
+step_sound setup seat event s sound =
+    by_entry setup s (outcome setup seat event s) (makes_entry (outcome setup seat event s).reply) refl sound (outcome_safe setup seat event s sound)
 
 counted_quiet : (s : State) (o : Outcome) → makes_entry o.reply ≡ false → o.state ≡ s → (counted s.entries o).state ≡ s
 counted_quiet s o h e = rw (h, e) refl
@@ -139,6 +143,13 @@ begin_members setup valid =
     All-map (IsThreadIn setup.opened setup.programs) new_thread setup.threads
     (All-weaker (IsThreadOf setup.opened setup.programs) (λ t. IsThreadIn setup.opened setup.programs (new_thread t)) (λ t h. record { proc_no = h.proc_no; program = h.program }) setup.threads valid.threads)
 
+begin_within : (cs : List ChanSetup) → All IsWithin (map new_channel cs)
+begin_within cs = All-from_recursion IsWithin (map new_channel cs) (each cs)
+  where
+    each : (cs : List ChanSetup) → AllByRecursion IsWithin (map new_channel cs)
+    each [] = tt
+    each (c ∷ cs) = (omega arith, each cs)
+
 begin_sound : (setup : Setup) → IsValid setup → IsSound setup (begin_state setup)
 begin_sound setup valid =
     record {
@@ -146,6 +157,8 @@ begin_sound setup valid =
       members = begin_members setup valid;
       opened = valid.opened.to;
       waits_right = nobody_rightly (map new_channel setup.chans);
+      within = begin_within setup.chans;
+      order = nobody_in_order 0;
       calls = begin_calls setup.files;
     }
 

@@ -8,7 +8,7 @@ use Rattle.p9_manual.specs.declared.state.Place.{Place}
 use Rattle.p9_manual.specs.declared.state.Place.TheVariants.{Running, New, Ready, Waiting, Ended}
 use Rattle.p9_manual.specs.declared.state.Thread.{Thread}
 use Rattle.p9_manual.specs.Places.{runs_in, is_of}
-use Rattle.p9_manual.specs.State.{State, by_id, pick}
+use Rattle.p9_manual.specs.State.{State, by_id, pick, placed}
 use Rattle.p9_manual.specs.Stuck.{is_stuck}
 use Rattle.p9_manual.specs.Next.{next_event, next_of, turn, turn_reply, started, stuck, is_place, is_over}
 use Rattle.p9_manual.specs.Step.{makes_entry}
@@ -16,7 +16,7 @@ use Rattle.p9_manual.specs.Standing.{times, place_in, times_in_line}
 use Rattle.p9_manual.specs.Sound.{IsSound}
 use Rattle.p9_word.specs.Setup.{IsBetween}
 use Rattle.p9_manual.proofs.Sound.Stand.{turn_stands, picked_counts, members_placed, member_at}
-use Rattle.p9_manual.proofs.Sound.Outcomes.{IsSafe, BeginsOneOf, if_safe, same_safe}
+use Rattle.p9_manual.proofs.Sound.Outcomes.{IsSafe, BeginsOneOf, if_safe, same_safe, later_sound}
 
 turn_makes : (t program arg n : ℕ) (pl : Place) → 1 + n ≡ times_in_line pl → makes_entry (turn_reply t (program, arg, pl)) ≡ true
 turn_makes t program arg n New h = refl
@@ -37,13 +37,15 @@ turn_safe : (setup : Setup) (p t : ℕ) (rest : List ℕ) (s : State) (o : Optio
 turn_safe setup p t rest s None at ready none e sound = absurd (omega arith)
 turn_safe setup p t rest s (Some thread) at ready none e sound =
     record {
-      sound = record {
+      sound = later_sound setup (record s { line = rest; threads = placed t Running s.threads }) (record {
         stand = turn_stands s.threads s.line s.waits p t rest sound.stand none e;
         members = members_placed s.opened setup.programs t Running s.threads sound.members;
         opened = sound.opened;
         waits_right = sound.waits_right;
+        within = sound.within;
+        order = sound.order;
         calls = sound.calls;
-      };
+      });
       quiet = λ h. let m = turn_makes t thread.program thread.arg (times (λ u. eqb u t) rest) thread.place ready in cc (m, h);
       begins = turn_begins setup t thread.arg thread.program thread.place (member_at s.opened setup.programs s.threads t thread sound.members at).program;
     }
@@ -51,7 +53,7 @@ turn_safe setup p t rest s (Some thread) at ready none e sound =
 stuck_safe : (setup : Setup) (s : State) → IsSound setup s → IsSafe setup s (stuck s)
 stuck_safe setup s sound =
     record {
-      sound = record { stand = sound.stand; members = sound.members; opened = sound.opened; waits_right = sound.waits_right; calls = sound.calls };
+      sound = later_sound setup (record s { over = true }) (record { stand = sound.stand; members = sound.members; opened = sound.opened; waits_right = sound.waits_right; within = sound.within; order = sound.order; calls = sound.calls });
       quiet = λ h. cc;
       begins = tt;
     }

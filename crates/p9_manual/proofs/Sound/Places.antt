@@ -54,12 +54,13 @@ place_of-placed_same threads t place made = ap place_in (by_id-changed_same (at_
 pub place_of-placed_other : (threads : List Thread) (t u : ℕ) (place : Place) → IsMade t threads → u ≢ t → place_of (placed t place threads) u ≡ place_of threads u
 place_of-placed_other threads t u place made ne = ap place_in (by_id-changed_other (at_place place) threads t u made.0 made.1 ne)
 
-get_step : (b : Bool) (o : Option Thread) (x : Thread) → cond b o None ≡ Some x → o ≡ Some x
+get_step : {A : Type 0} (b : Bool) (o : Option A) (x : A) → cond b o None ≡ Some x → o ≡ Some x
 get_step true o x h = h
 get_step false o x h = cc
 
-pub get_from_by_id : (threads : List Thread) (t : ℕ) (thread : Thread) → by_id threads t ≡ Some thread → slice_get threads (t - 1) ≡ Some thread
-get_from_by_id threads t thread e = get_step (ltb 0 t) (slice_get threads (t - 1)) thread e
+-- the item with this id, from its place in the list
+pub get_from_by_id : {A : Type 0} (xs : List A) (t : ℕ) (x : A) → by_id xs t ≡ Some x → slice_get xs (t - 1) ≡ Some x
+get_from_by_id xs t x e = get_step (ltb 0 t) (slice_get xs (t - 1)) x e
 
 by_id-map_step : {A B : Type 0} (f : A → B) (b : Bool) (o : Option A) (r : Option B) → r ≡ option_map f o → cond b r None ≡ option_map f (cond b o None)
 by_id-map_step f true o r h = h

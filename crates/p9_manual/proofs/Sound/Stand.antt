@@ -1,21 +1,19 @@
 -- Threads, line and waits after a thread was put somewhere.
-use Rattle.std.proofs.Common.{◌≡◌, ◌≢◌, inl, inr, ℕ, zero, suc, ◌+◌, ◌-◌, ◌≤◌, Bool, true, false, not, cond, eqb, List, [], ◌∷◌, ◌++◌, map, Option, Some, refl, ap, sym, subst, ◌∙◌, arith, rules, tests, append_assoc, append-nil}
-use Rattle.std.specs.Prelude.{All, slice_get}
-use Rattle.std.specs.List.{filter, list_any, AllByRecursion}
+use Rattle.std.proofs.Common.{◌≡◌, ◌≢◌, inl, inr, ℕ, ◌+◌, ◌-◌, ◌≤◌, Bool, true, false, not, cond, eqb, List, [], ◌∷◌, ◌++◌, Option, Some, refl, ap, sym, subst, ◌∙◌, arith, rules, tests}
+use Rattle.std.specs.Prelude.{All}
+use Rattle.std.specs.List.{filter, list_any}
 use Rattle.std.proofs.lemmas.Bool.{cases_eq}
 use Rattle.std.proofs.lemmas.List.Elements.{recursion_from_All}
 use Rattle.p9_word.specs.declared.answer.Answer.{Answer}
-use Rattle.p9_word.specs.declared.answer.Answer.TheVariants.{Closed}
 use Rattle.p9_manual.specs.declared.state.Place.{Place}
 use Rattle.p9_manual.specs.declared.state.Place.TheVariants.{Running, New, Ready, Waiting, Ended}
 use Rattle.p9_manual.specs.declared.state.Thread.{Thread}
 use Rattle.p9_manual.specs.declared.state.Waiter.{Waiter}
 use Rattle.p9_manual.specs.Places.{runs_in, is_of, is_running}
 use Rattle.p9_manual.specs.State.{by_id, pick, placed, at_place, waits_without}
-use Rattle.p9_manual.specs.Chans.{all_closed}
 use Rattle.p9_manual.specs.Standing.{StandOnce, times, place_of, times_in_line, times_in_waits}
 use Rattle.p9_manual.specs.Sound.{IsThreadIn}
-use Rattle.p9_manual.proofs.Sound.Counts.{times-push, times_pick, times_none, pick_passes, filter_none, cleared, all_kept, All-changed}
+use Rattle.p9_manual.proofs.Sound.Counts.{times-push, times_pick, times_none, pick_passes, filter_none, cleared, all_kept, All-changed, held_at}
 use Rattle.p9_manual.proofs.Sound.Places.{IsMade, made_from_place, place_of-placed_same, place_of-placed_other, get_from_by_id}
 use Rattle.p9_manual.proofs.Sound.Running.{runs-changed, runs-started, runs-started_elsewhere}
 
@@ -87,13 +85,6 @@ ended_stands threads line waits t stand runs =
     rw (line_without threads line waits t stand runs, waits_without_running threads line waits t stand runs)
     (moved threads line line waits waits t Ended stand (made_running threads t runs) (at_rest threads line waits t Ended stand refl) (λ u ne. refl) (λ u ne. refl) (stand.in_line t ∙ ap times_in_line runs) (stand.in_waits t ∙ ap times_in_waits runs))
 
-waiting_place : (pl : Place) (n : ℕ) → 1 + n ≡ times_in_waits pl → (pl ≡ Waiting) × (n ≡ 0)
-waiting_place Waiting n h = (refl, omega arith)
-waiting_place New n h = absurd (omega arith)
-waiting_place (Ready a) n h = absurd (omega arith)
-waiting_place Running n h = absurd (omega arith)
-waiting_place Ended n h = absurd (omega arith)
-
 -- t, whose waits are taken out, is ready
 pub woken_stands : (threads : List Thread) (line : List ℕ) (waits others : List Waiter) (t : ℕ) (a : Answer) → StandOnce threads line waits → place_of threads t ≡ Waiting → times (λ w. eqb w.tid t) others ≡ 0 → ((u : ℕ) → u ≢ t → times (λ w. eqb w.tid u) others ≡ times (λ w. eqb w.tid u) waits) → StandOnce (placed t (Ready a) threads) (line ++ t ∷ []) others
 woken_stands threads line waits others t a stand here gone rest =
@@ -103,33 +94,6 @@ woken_stands threads line waits others t a stand here gone rest =
     rest
     (rw (times-push (λ x. eqb x t) true line t (eqb_same t), none) refl)
     gone
-
--- a thread whose wait is picked waits, and nowhere else
-picked_waits : (threads : List Thread) (line : List ℕ) (waits : List Waiter) (p : Waiter → Bool) (w : Waiter) (others : List Waiter) → StandOnce threads line waits → pick p waits ≡ Some (w, others) → (place_of threads w.tid ≡ Waiting) × (times (λ x. eqb x.tid w.tid) others ≡ 0)
-picked_waits threads line waits p w others stand e =
-    let k = times_pick p (λ x. eqb x.tid w.tid) waits w others e in
-    let one = rw (eqb_same w.tid) at k in
-    waiting_place (place_of threads w.tid) (times (λ x. eqb x.tid w.tid) others) (sym one ∙ stand.in_waits w.tid)
-
-pub picked_stands : (threads : List Thread) (line : List ℕ) (waits : List Waiter) (p : Waiter → Bool) (w : Waiter) (others : List Waiter) (a : Answer) → StandOnce threads line waits → pick p waits ≡ Some (w, others) → StandOnce (placed w.tid (Ready a) threads) (line ++ w.tid ∷ []) others
-picked_stands threads line waits p w others a stand e =
-    let here = picked_waits threads line waits p w others stand e in
-    woken_stands threads line waits others w.tid a stand here.0 here.1
-    (λ u ne. let k = times_pick p (λ x. eqb x.tid u) waits w others e in let z = rw (eqb_other w.tid u ne) at k in omega (arith, z))
-
--- a thread that runs runs on when another one is woken
-pub picked_runs : (threads : List Thread) (line : List ℕ) (waits : List Waiter) (p : Waiter → Bool) (w : Waiter) (others : List Waiter) (a : Answer) (t : ℕ) → StandOnce threads line waits → pick p waits ≡ Some (w, others) → place_of threads t ≡ Running → place_of (placed w.tid (Ready a) threads) t ≡ Running
-picked_runs threads line waits p w others a t stand e runs =
-    let here = picked_waits threads line waits p w others stand e in
-    place_of-placed_other threads w.tid t (Ready a) (made_waiting threads w.tid here.0) (λ same. let r = subst (λ (x : ℕ). place_of threads x ≡ Running) same runs in cc (r, here.0)) ∙ runs
-
--- the threads of the first waits are woken with Closed
-pub closing : (ws others : List Waiter) (threads : List Thread) (line : List ℕ) → StandOnce threads line (ws ++ others) → StandOnce (all_closed ws threads) (line ++ map (λ w. w.tid) ws) others
-closing [] others threads line stand = rw append-nil stand
-closing (w ∷ ws) others threads line stand =
-    let next = picked_stands threads line (w ∷ (ws ++ others)) (λ x. true) w (ws ++ others) Closed stand refl in
-    let rest = closing ws others (placed w.tid (Ready Closed) threads) (line ++ w.tid ∷ []) next in
-    rw append_assoc at rest
 
 -- a thread that waits, by its only wait
 pub waits_once : (threads : List Thread) (line : List ℕ) (waits : List Waiter) (t : ℕ) → StandOnce threads line waits → 1 ≤ times (λ w. eqb w.tid t) waits → (place_of threads t ≡ Waiting) × (times (λ w. eqb w.tid t) waits ≡ 1)
@@ -147,6 +111,11 @@ pub answered_stands : (threads : List Thread) (line : List ℕ) (waits : List Wa
 answered_stands threads line waits t a stand here =
     woken_stands threads line waits (waits_without t waits) t a stand here (cleared (λ w. eqb w.tid t) waits)
     (λ u ne. all_kept (λ w. eqb w.tid u) (λ w. eqb w.tid t) (λ w e. let f = eqb_equal w.tid t e in rw (ap (λ x. eqb x u) f) (eqb_other t u ne)) waits)
+
+-- a thread that runs runs on when another one, which waits, is woken
+pub others_run : (threads : List Thread) (t u : ℕ) (a : Answer) → place_of threads t ≡ Waiting → place_of threads u ≡ Running → place_of (placed t (Ready a) threads) u ≡ Running
+others_run threads t u a here runs =
+    place_of-placed_other threads t u (Ready a) (made_waiting threads t here) (λ same. let r = subst (λ (x : ℕ). place_of threads x ≡ Running) same runs in cc (r, here)) ∙ runs
 
 line_place : (pl : Place) (n : ℕ) → 1 + n ≡ times_in_line pl → (pl ≢ Ended) × (n ≡ 0) × (times_in_waits pl ≡ 0)
 line_place Waiting n h = absurd (omega arith)
@@ -200,16 +169,7 @@ pub members_placed : (opened programs t : ℕ) (pl : Place) (threads : List Thre
 members_placed opened programs t pl threads h =
     All-changed (IsThreadIn opened programs) (at_place pl) (λ x m. record { proc_no = m.proc_no; program = m.program }) threads (t - 1) h
 
-pub members_closed : (opened programs : ℕ) → (ws : List Waiter) (threads : List Thread) → All (IsThreadIn opened programs) threads → All (IsThreadIn opened programs) (all_closed ws threads)
-members_closed opened programs [] threads h = h
-members_closed opened programs (w ∷ ws) threads h = members_closed opened programs ws (placed w.tid (Ready Closed) threads) (members_placed opened programs w.tid (Ready Closed) threads h)
-
-member_from : (opened programs : ℕ) → (threads : List Thread) (i : ℕ) (thread : Thread) → AllByRecursion (IsThreadIn opened programs) threads → slice_get threads i ≡ Some thread → IsThreadIn opened programs thread
-member_from opened programs [] i thread h e = cc
-member_from opened programs (x ∷ xs) zero thread h e = let same : x ≡ thread = cc in subst (λ (y : Thread). IsThreadIn opened programs y) same h.0
-member_from opened programs (x ∷ xs) (suc i) thread h e = member_from opened programs xs i thread h.1 e
-
 -- what holds of all threads holds of the one with this id
 pub member_at : (opened programs : ℕ) (threads : List Thread) (t : ℕ) (thread : Thread) → All (IsThreadIn opened programs) threads → by_id threads t ≡ Some thread → IsThreadIn opened programs thread
 member_at opened programs threads t thread h e =
-    member_from opened programs threads (t - 1) thread (recursion_from_All (IsThreadIn opened programs) threads h) (get_from_by_id threads t thread e)
+    held_at (IsThreadIn opened programs) threads (t - 1) thread (recursion_from_All (IsThreadIn opened programs) threads h) (get_from_by_id threads t thread e)

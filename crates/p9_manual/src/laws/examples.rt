@@ -3,6 +3,8 @@
 ghost use Rattle.p9_manual.specs.History.{IsLegal};
 ghost use Rattle.p9_manual.specs.Examples.{copy_setup, copied_hi, swapped, ShowsTheCopy, IsWrongAt};
 ghost use Rattle.p9_manual.specs.ThreadExamples.{turns_setup, by_turns, ShowsTheTurns};
+ghost use Rattle.p9_manual.specs.ChannelExamples.{channel_setup, by_a_channel, ShowsTheChannel};
+ghost use Rattle.p9_manual.specs.AltExamples.{ready_setup, one_ready, ShowsNoChoice, choice_setup, two_ready, ShowsTheChoice, closing_setup, closed_under, ShowsTheClosing};
 
 /// The copy of a file of the two bytes `hi` is a legal history of a copy's setup.
 pub fn copying_two_bytes_is_legal()
@@ -28,4 +30,44 @@ pub fn taking_turns_is_legal()
 /// A proc makes no request of a thread that runs in another one, and once all threads are ended its turns are over.
 pub fn taking_turns_shows_the_turns()
     ensures { ShowsTheTurns }
+{}
+
+/// A channel for one element that a thread makes, fills, closes, empties and frees is a legal history.
+pub fn using_a_channel_is_legal()
+    ensures { IsLegal channel_setup by_a_channel }
+{}
+
+/// Once it is freed no request names it, and the next channel has another id.
+pub fn using_a_channel_frees_it()
+    ensures { ShowsTheChannel }
+{}
+
+/// An alt on three channels takes the element of the only one that has one, and then doesn't block.
+pub fn taking_the_ready_entry_is_legal()
+    ensures { IsLegal ready_setup one_ready }
+{}
+
+/// It draws no word, since there is no choice.
+pub fn taking_the_ready_entry_draws_nothing()
+    ensures { ShowsNoChoice }
+{}
+
+/// Two threads that each send or receive on a channel meet, and a word says which of them sends.
+pub fn choosing_an_entry_is_legal()
+    ensures { IsLegal choice_setup two_ready }
+{}
+
+/// One word is drawn, nobody waits any more, and the thread that waited runs first.
+pub fn choosing_an_entry_draws_a_word()
+    ensures { ShowsTheChoice }
+{}
+
+/// Three threads wait on a channel that is closed, and each is told so once, in the order of their calls.
+pub fn closing_a_channel_is_legal()
+    ensures { IsLegal closing_setup closed_under }
+{}
+
+/// Nobody waits on it any more, and the three threads are ready.
+pub fn closing_a_channel_wakes_all()
+    ensures { ShowsTheClosing }
 {}

@@ -7,5 +7,5 @@ use Rattle.p9_machine.proofs.begin.begin_board.Goals as goal
 pub returns-clause-board : goal.returns-clause-board
 returns-clause-board c =
     let s = c.in_ok-sched.ensures in
-    let chans = c.in_ok-chans.ensures ∙ ap (λ (xs : List ChanSetup). map new_channel xs) c.as_slice.ensures in
-    begun_board c.args.setup.now _ c.in_ok-copy.ensures s.threads s.parts s.words s.opened c.new.ensures.items chans c.in_ok-desks.ensures.ioprocs refl refl
+    let chans = c.in_ok-alts.ensures.chans ∙ ap (λ (xs : List ChanSetup). map new_channel xs) c.as_slice.ensures in
+    begun_board c.args.setup.now _ c.in_ok-copy.ensures s.threads s.parts s.words s.opened c.in_ok-alts.ensures.waits chans c.in_ok-desks.ensures.ioprocs c.new.ensures c.new-2.ensures.items refl refl

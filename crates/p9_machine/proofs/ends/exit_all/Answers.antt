@@ -14,4 +14,4 @@ returns c = λ line usable.
     let io = ap ioprocs_of its ∙ (c.abandon_all.ensures.ioprocs ∙ ap (map let_all_go) d) in
     let rooms = ap rooms_of its ∙ (c.abandon_all.ensures.rooms ∙ ap rooms_of c.deref_mut.ensures.value) in
     let calls = ap begun_count (ap ioprocs_of its) ∙ (c.abandon_all.ensures.calls ∙ ap begun_count d) in
-    gives_all_ended c.args.board.now _ line (rw c.end_all.ensures refl) c.clear.ensures.items io rooms calls
+    gives_all_ended c.args.board.now _ line (rw c.end_all.ensures refl) c.withdraw_all.ensures.channels c.withdraw_all.ensures.waits io rooms calls usable

@@ -6,5 +6,5 @@ use Rattle.p9_machine.proofs.threads.join_group.Goals as goal
 
 pub returns : goal.returns
 returns c = λ line usable.
-    gives_changed (in_group c.args.group) (record { same = λ x. refl }) c.args.t _ _ c.args.board.now _ line
-    (ap Number (c.from.ensures ∙ c.group-old.ensures)) (rw c.set_group.ensures refl) (rw c.set_group.ensures refl) (rw c.set_group.ensures refl) refl refl usable
+    gives_changed (in_group c.args.group) (record { same = λ x. refl }) c.args.t _ _ c.args.board.now _ line c.set_group.new.self
+    (ap Number (c.from.ensures ∙ c.group-old.ensures)) refl (rw c.set_group.ensures refl) (rw c.set_group.ensures refl) (rw c.set_group.ensures refl) (rw c.set_group.ensures refl) usable

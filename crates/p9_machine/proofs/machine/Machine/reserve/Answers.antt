@@ -1,4 +1,4 @@
-use Rattle.std.proofs.Common.{List, ◌≡◌, ◌+◌, ◌≤◌, Some, None, sym, ap, ◌∙◌, arith}
+use Rattle.std.proofs.Common.{List, ◌≡◌, Some, None, ap, ◌∙◌, arith}
 use Rattle.p9_machine.specs.declared.desk.Desk.{Desk}
 use Rattle.p9_machine.specs.Board.{calls_of}
 use Rattle.p9_machine.specs.Calls.{begun_count}

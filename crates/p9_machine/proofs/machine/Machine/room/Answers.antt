@@ -3,7 +3,6 @@ use Rattle.std.specs.Prelude.{slice_get}
 use Rattle.std.specs.Vec.{with_items}
 use Rattle.std.proofs.lemmas.List.{with_items_is}
 use Rattle.p9_manual.specs.declared.state.Ioproc.{Ioproc}
-use Rattle.p9_machine.specs.Board.{state_of}
 use Rattle.p9_machine.specs.Calls.{call_length_of}
 use Rattle.p9_machine.specs.Desks.{ioprocs_of}
 use Rattle.p9_machine.proofs.Keeps.{kept_with, short_begun}
@@ -13,7 +12,7 @@ pub invariant_of-self : goal.invariant_of-self
 invariant_of-self c =
     let its : (with_items c.self.inside.board.desks c.lend.new.desks).items ≡ c.lend.new.desks = with_items_is c.self.inside.board.desks c.lend.new.desks (omega (arith, c.lend.auto.desks, c.deref_mut.ensures.len)) in
     let io : ioprocs_of (with_items c.self.inside.board.desks c.lend.new.desks).items ≡ ioprocs_of c.self.inside.board.desks.items = ap ioprocs_of its ∙ (c.lend.ensures.ioprocs ∙ ap ioprocs_of c.deref_mut.ensures.value) in
-    kept_with c.self.inside _ c.self.invariant refl refl refl (λ line. ap (λ (ios : List Ioproc). record (state_of c.self.inside.board line) { ioprocs = ios }) io)
+    kept_with c.self.inside _ c.self.invariant refl io
 
 pub returns-clause-short : goal.returns-clause-short
 returns-clause-short c =

@@ -1,4 +1,4 @@
-use Rattle.p9_manual.proofs.StuckLaws.{unstuck_moves}
+use Rattle.p9_manual.proofs.MoveLaws.{unstuck_moves}
 use Rattle.p9_manual.proofs.laws.stuck.unstuck_moves.Goals as goal
 
 pub returns : goal.returns

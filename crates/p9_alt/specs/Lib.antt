@@ -1,0 +1,5 @@
+pub mod Exchange
+pub mod Kept
+pub mod Lends
+pub mod Passing
+pub mod Sides

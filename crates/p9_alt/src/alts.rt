@@ -1,0 +1,248 @@
+ghost use Rattle.std.specs.Prelude.{◌≡◌, ◌==◌, ◌≤◌, ◌+◌, ◌<◌, ◌∷◌, ◌++◌, [], None, Some, not, false, true, length, map, OnOk, IfSome};
+ghost use Rattle.std.specs.List.{list_any, find};
+ghost use Rattle.std.specs.Option.{option_map};
+ghost use Rattle.std.specs.Borrow.{sem};
+ghost use Rattle.p9_manual.specs.Alt.{verdict, unready};
+ghost use Rattle.p9_manual.specs.Close.{all_failed};
+ghost use Rattle.p9_manual.specs.Offers.{waits_on};
+ghost use Rattle.p9_manual.specs.Ready.{fits, ready_entries};
+ghost use Rattle.p9_chan.specs.Channels.{IsMade, chan_of, is_closed_in};
+ghost use Rattle.p9_alt.specs.Exchange.{HasMemory, NoSendOnClosed, IsIdle, AreBefore, offer_of, wake_of, chans_after, waits_after, pair_of, closed_on, shown_alt};
+ghost use Rattle.p9_alt.specs.Passing.{nth_deal, IsDealt, IsLeft};
+
+use crate::answers::fail_all;
+use crate::commit::{Done, Turn, commit};
+use crate::entries::{entry_out, fits, is_closed_list};
+use crate::offer::{Offer, Wake};
+use crate::queue::is_awaited;
+use crate::ready::{most_zeros, ready_at, ready_count};
+use crate::side::Side;
+use crate::zeros::Zeros;
+use p9_chan::Chans;
+use p9_manual::Party;
+use p9_word::{AltEntry, Ending, NoMemory, Room, Seq, Tid};
+use std::alloc::Global;
+use std::marker::Model;
+
+/// The threads that wait in an alt, in the order in which they came, and the channels.
+///
+/// send, recv and their kin are alts of one entry, whose answers have forms of their own: those are `single`.
+#[derive(Drop)]
+pub struct Alts {
+    chans: Chans,
+    waits: Vec<Party>,
+    waiter: bool,
+    zeros: Zeros,
+}
+
+impl Model for Alts {
+    ghost use Rattle.p9_alt.specs.Exchange.{Exchange};
+
+    ghost Value = { Exchange };
+
+    ghost use Rattle.p9_alt.specs.Kept.{shown, IsKept};
+
+    ghost view = { shown };
+
+    ghost invariant = { IsKept };
+}
+
+impl Alts {
+    ghost use Rattle.p9_alt.specs.Lends.{lends_channels};
+
+    /// No channel, and nobody waits. It takes no memory.
+    pub fn new(alloc: Global) -> Alts
+        ensures chans { result.channels.chans ≡ [] }
+        ensures room { result.channels.room ≡ None }
+        ensures waits { result.waits ≡ [] }
+    {
+        Alts {
+            chans: Chans::new(alloc),
+            waits: Vec::new(alloc),
+            waiter: false,
+            zeros: Zeros::new(alloc),
+        }
+    }
+
+    /// The channels.
+    pub fn chans(&self) -> &Chans
+        ensures { result.now ≡ self.now.channels }
+    {
+        &self.chans
+    }
+
+    /// The channels, to be made, freed or given up.
+    pub fn chans_mut(&mut self) -> &mut Chans
+        ensures* writes_back { sem 𝓛 (lends_channels self.entry result) }
+        ensures value { result.now ≡ self.old.channels }
+    {
+        &mut self.chans
+    }
+
+    /// How many threads wait here.
+    pub fn len(&self) -> usize
+        ensures { result ≡ length self.now.waits }
+    {
+        self.waits.len()
+    }
+
+    /// Takes all the memory that one offer of these entries may need. A refusal changes nothing.
+    pub fn reserve(&mut self, entries: &Seq<AltEntry>) -> Result<(), NoMemory>
+        ensures channels { self.new.channels ≡ self.old.channels }
+        ensures waits { self.new.waits ≡ self.old.waits }
+        ensures memory { OnOk result (HasMemory entries.now self.new) }
+    {
+        let zeros = most_zeros(&self.chans, &self.waits, entries.as_slice());
+        self.zeros.reserve(zeros)?;
+        self.waits.reserve(1)?;
+        self.waiter = true;
+        Ok(())
+    }
+
+    /// Whether these entries may be asked for: there are at most 64, each slot goes with its op, and each entry in use
+    /// names a channel that is live and gives no more bytes than an element has.
+    pub fn fits(&self, entries: &Seq<AltEntry>) -> bool
+        ensures { result ≡ fits self.now.channels.chans entries.now }
+    {
+        fits(&self.chans, entries.as_slice())
+    }
+
+    /// How many of these entries are ready. No thread that waits here is the caller.
+    pub fn ready_count(&self, _tid: Tid, entries: &Seq<AltEntry>) -> u32
+        requires { fits self.now.channels.chans entries.now ≡ true }
+        ensures { result ≡ length (ready_entries self.now.channels.chans self.now.waits entries.now) }
+    {
+        ready_count(&self.chans, &self.waits, entries.as_slice())
+    }
+
+    /// An alt of a thread, whose call has this place in the trail. Of several ready entries the word `w` chooses one, by
+    /// its remainder. The thread that is woken, if one is, is put into `woken`.
+    pub fn offer(
+        &mut self,
+        tid: Tid,
+        at: u64,
+        entries: Seq<AltEntry>,
+        ending: Ending,
+        single: bool,
+        w: u32,
+        woken: &mut Option<Wake>,
+    ) -> Offer
+        requires fits { fits self.old.channels.chans entries ≡ true }
+        requires memory { HasMemory entries self.old }
+        requires idle { IsIdle tid self.old }
+        requires before { AreBefore at self.old }
+        requires open { NoSendOnClosed self.old }
+        ensures told { result ≡ offer_of (verdict w (record { tid = tid; at = at; single = single; entries = entries }) ending self.old.channels.chans self.old.waits) }
+        ensures woken { woken.new ≡ wake_of (verdict w (record { tid = tid; at = at; single = single; entries = entries }) ending self.old.channels.chans self.old.waits) }
+        ensures chans { self.new.channels.chans ≡ chans_after (verdict w (record { tid = tid; at = at; single = single; entries = entries }) ending self.old.channels.chans self.old.waits) self.old.channels.chans }
+        ensures waits { self.new.waits ≡ waits_after (verdict w (record { tid = tid; at = at; single = single; entries = entries }) ending self.old.channels.chans self.old.waits) (record { tid = tid; at = at; single = single; entries = entries }) self.old.waits }
+        ensures room { self.new.channels.room ≡ self.old.channels.room }
+        ensures open { NoSendOnClosed self.new }
+    {
+        *woken = None;
+        let me = Party {
+            tid,
+            at,
+            single,
+            entries,
+        };
+        if is_closed_list(me.entries.as_slice()) {
+            return Offer::Closed;
+        }
+        let ready = ready_count(&self.chans, &self.waits, me.entries.as_slice());
+        if ready == 0 {
+            return self.unready(me, ending);
+        }
+        let done = self.go_on(me, w % ready);
+        *woken = done.woken;
+        Offer::Done(done.answer)
+    }
+
+    /// Of the caller's ready entries the one with this number goes on.
+    fn go_on(&mut self, me: Party, n: u32) -> Done
+        requires fits { fits self.old.channels.chans me.entries ≡ true }
+        requires zeros { HasMemory me.entries self.old }
+        requires within { n < length (ready_entries self.old.channels.chans self.old.waits me.entries) }
+        requires open { NoSendOnClosed self.old }
+        ensures dealt { IsDealt (nth_deal me n self.old) result }
+        ensures left { IsLeft (nth_deal me n self.old) self.old.waits self.new.channels.chans self.new.waits }
+        ensures room { self.new.channels.room ≡ self.old.channels.room }
+        ensures open { NoSendOnClosed self.new }
+    {
+        let i = ready_at(&self.chans, &self.waits, me.entries.as_slice(), n);
+        let turn = Turn {
+            at: me.at,
+            single: me.single,
+            i: i as u32,
+        };
+        let entry = entry_out(me.entries, i);
+        commit(
+            &mut self.chans,
+            &mut self.waits,
+            &mut self.zeros,
+            turn,
+            entry,
+        )
+    }
+
+    /// No entry is ready: the thread waits, unless its list doesn't block.
+    fn unready(&mut self, me: Party, ending: Ending) -> Offer
+        requires waiter { self.old.spare.waiter ≡ true }
+        requires few { length me.entries ≤ 64 }
+        requires idle { IsIdle me.tid self.old }
+        ensures told { result ≡ offer_of (unready ending) }
+        ensures channels { self.new.channels ≡ self.old.channels }
+        ensures waits { self.new.waits ≡ waits_after (unready ending) me self.old.waits }
+    {
+        match ending {
+            Ending::NoBlk => Offer::NoBlock,
+            Ending::End => {
+                self.waits.push_reserved(me);
+                self.waiter = false;
+                Offer::Waits
+            }
+        }
+    }
+
+    /// Closes channel c, and puts each thread that waits on it last into `woken`, with its answer. It is false exactly
+    /// where the channel was closed already, and then nothing changes.
+    pub fn close(&mut self, c: u32, woken: &mut Room<Wake>) -> bool
+        requires made { IsMade c self.old.channels }
+        requires spare { length self.old.waits ≤ woken.old.spare }
+        ensures first { result ≡ not (is_closed_in (chan_of c self.old.channels)) }
+        ensures again { result ≡ false → (self.new ≡ self.old) × (woken.new ≡ woken.old) }
+        ensures closed { result ≡ true → self.new ≡ closed_on c self.old }
+        ensures woken { result ≡ true → map pair_of woken.new.items ≡ map pair_of woken.old.items ++ all_failed c self.old.waits }
+    {
+        if self.chans.closing(c).is_some() {
+            return false;
+        }
+        self.chans.close(c);
+        fail_all(&self.waits, c, woken);
+        self.waits.retain(|w| !Side::Either.is_in(c, w));
+        true
+    }
+
+    /// Nobody waits any more, and nobody is woken.
+    pub fn withdraw_all(&mut self)
+        ensures channels { self.new.channels ≡ self.old.channels }
+        ensures waits { self.new.waits ≡ [] }
+    {
+        self.waits.clear();
+    }
+
+    /// Whether a thread that waits has an entry on channel c.
+    pub fn is_awaited(&self, c: u32) -> bool
+        ensures { result ≡ list_any (waits_on c) self.now.waits }
+    {
+        is_awaited(&self.waits, Side::Either, c)
+    }
+
+    /// The alt in which a thread waits: its entries, and whether it is single. `None` exactly where it doesn't wait here.
+    pub fn waiting(&self, tid: Tid) -> Option<(&Seq<AltEntry>, bool)>
+        ensures { option_map (λ a. (a.0.now, a.1)) result ≡ shown_alt (find (λ w. w.tid == tid) self.now.waits) }
+    {
+        let w = self.waits.iter().find(|w| w.tid == tid)?;
+        Some((&w.entries, w.single))
+    }
+}

@@ -1,0 +1,51 @@
+ghost use Rattle.std.specs.Prelude.{◌≡◌, ◌≤◌, length, slice_get, IfSome};
+ghost use Rattle.std.specs.List.{list_any, find};
+ghost use Rattle.std.specs.Option.{option_copied};
+ghost use Rattle.p9_alt.specs.Kept.{IsQueue};
+ghost use Rattle.p9_alt.specs.Passing.{without, IsLess};
+ghost use Rattle.p9_alt.specs.Sides.{party_test};
+
+use crate::side::Side;
+use p9_manual::Party;
+
+/// Whether a thread that waits does this on channel c.
+pub(crate) fn is_awaited(waits: &[Party], side: Side, c: u32) -> bool
+    ensures { result ≡ list_any (party_test side c) waits.now }
+{
+    waits.iter().any(|w| side.is_in(c, w))
+}
+
+/// The thread that waits longest of those that do this on channel c.
+pub(crate) fn first(waits: &[Party], side: Side, c: u32) -> Option<&Party>
+    ensures { option_copied result ≡ find (party_test side c) waits.now }
+{
+    waits.iter().find(|w| side.is_in(c, w))
+}
+
+/// Where it stands among all that wait, counted from 0: behind them where there is none.
+fn first_index(waits: &[Party], side: Side, c: u32) -> usize
+    ensures { slice_get waits.now result ≡ find (party_test side c) waits.now }
+{
+    for i in 0..waits.len() {
+        if side.is_in(c, &waits[i]) {
+            return i;
+        }
+    }
+    waits.len()
+}
+
+/// The thread that waits longest of those that do this on channel c. It waits no more.
+pub(crate) fn first_out(waits: &mut Vec<Party>, side: Side, c: u32) -> Option<Party>
+    requires { IsQueue waits.old.items }
+    ensures first { result ≡ find (party_test side c) waits.old.items }
+    ensures few { IfSome result (λ w. length w.entries ≤ 64) }
+    ensures waits { waits.new.items ≡ without result waits.old.items }
+    ensures less { IsLess waits.old waits.new }
+{
+    let i = first_index(waits, side, c);
+    if i < waits.len() {
+        Some(waits.remove(i))
+    } else {
+        None
+    }
+}

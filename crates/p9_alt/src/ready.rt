@@ -1,0 +1,122 @@
+ghost use Rattle.std.specs.Prelude.{◌≡◌, ◌<◌, ◌≤◌, ◌+◌, All, true, length, slice_index, slice_get, IfSome};
+ghost use Rattle.std.specs.List.{find};
+ghost use Rattle.p9_word.specs.declared.alt.AltOp.TheVariants.{Snd, Rcv};
+ghost use Rattle.p9_manual.specs.Offers.{sends_on};
+ghost use Rattle.p9_manual.specs.Ready.{can_go_on, is_ready, ready_entries, fits};
+ghost use Rattle.p9_chan.specs.Channels.{IsMade, chan_of};
+ghost use Rattle.p9_alt.specs.Exchange.{zeros_of, zeros_for};
+ghost use Rattle.p9_alt.specs.Passing.{IsUsable};
+
+use crate::entries::{zeros_at, zeros_in};
+use crate::queue::{first, is_awaited};
+use crate::side::Side;
+use p9_chan::Chans;
+use p9_manual::Party;
+use p9_word::{AltEntry, AltOp};
+
+/// Whether a send on channel c can go on.
+fn can_send(chans: &Chans, waits: &[Party], c: u32) -> bool
+    requires { IsMade c chans.now }
+    ensures { result ≡ can_go_on Snd c (chan_of c chans.now) waits.now }
+{
+    chans.closing(c).is_some()
+        || (!chans.is_full(c) || (chans.cap(c) == 0 && is_awaited(waits, Side::Receives, c)))
+}
+
+/// Whether a receive can.
+fn can_receive(chans: &Chans, waits: &[Party], c: u32) -> bool
+    requires { IsMade c chans.now }
+    ensures { result ≡ can_go_on Rcv c (chan_of c chans.now) waits.now }
+{
+    !chans.is_empty(c)
+        || (chans.closing(c).is_some() || (chans.cap(c) == 0 && is_awaited(waits, Side::Sends, c)))
+}
+
+/// Whether an entry is ready.
+fn is_ready(chans: &Chans, waits: &[Party], e: &AltEntry) -> bool
+    requires { IsUsable chans.now e.now }
+    ensures { result ≡ is_ready chans.now.chans waits.now e.now }
+{
+    if e.err {
+        return false;
+    }
+    match e.op {
+        AltOp::Snd => can_send(chans, waits, e.chan),
+        AltOp::Rcv => can_receive(chans, waits, e.chan),
+        AltOp::Nop => false,
+    }
+}
+
+/// How many entries are ready.
+pub(crate) fn ready_count(chans: &Chans, waits: &[Party], entries: &[AltEntry]) -> u32
+    requires few { length entries.now ≤ 64 }
+    requires usable { All (IsUsable chans.now) entries.now }
+    ensures { result ≡ length (ready_entries chans.now.chans waits.now entries.now) }
+{
+    let mut count = 0;
+    for e in entries {
+        if is_ready(chans, waits, e) {
+            count += 1;
+        }
+    }
+    count
+}
+
+/// The number of a ready entry, where so many are ready before it.
+pub(crate) fn ready_at(chans: &Chans, waits: &[Party], entries: &[AltEntry], n: u32) -> usize
+    requires usable { All (IsUsable chans.now) entries.now }
+    requires within { n < length (ready_entries chans.now.chans waits.now entries.now) }
+    ensures number { result ≡ slice_index (ready_entries chans.now.chans waits.now entries.now) n }
+    ensures within { result < length entries.now }
+    ensures ready { IfSome (slice_get entries.now result) (λ e. is_ready chans.now.chans waits.now e ≡ true) }
+{
+    let mut left = n;
+    for i in 0..entries.len() {
+        if is_ready(chans, waits, &entries[i]) {
+            if left == 0 {
+                return i;
+            }
+            left -= 1;
+        }
+    }
+    unreachable!()
+}
+
+/// How many zeros the thread needs that waits longest to send on channel c.
+fn sender_zeros(waits: &[Party], c: u32, elsize: u32) -> u32
+    ensures { result ≡ zeros_of c elsize (find (sends_on c) waits.now) }
+{
+    match first(waits, Side::Sends, c) {
+        Some(w) => zeros_at(elsize, Side::Sends, c, w.entries.as_slice()),
+        None => 0,
+    }
+}
+
+/// How many zeros an entry may need to go on.
+fn zeros_for(chans: &Chans, waits: &[Party], e: &AltEntry) -> u32
+    ensures { result ≡ zeros_for chans.now.chans waits.now e.now }
+{
+    if !chans.is_live(e.chan) {
+        return 0;
+    }
+    let elsize = chans.elsize(e.chan);
+    match e.op {
+        AltOp::Snd => zeros_in(elsize, &e.slot),
+        AltOp::Rcv => sender_zeros(waits, e.chan, elsize),
+        AltOp::Nop => 0,
+    }
+}
+
+/// The most that one of these entries may need.
+pub(crate) fn most_zeros(chans: &Chans, waits: &[Party], entries: &[AltEntry]) -> u32
+    ensures { All (λ e. zeros_for chans.now.chans waits.now e ≤ result) entries.now }
+{
+    let mut most = 0;
+    for e in entries {
+        let zeros = zeros_for(chans, waits, e);
+        if most < zeros {
+            most = zeros;
+        }
+    }
+    most
+}

@@ -1,6 +1,0 @@
-use Rattle.std.proofs.Common.{◌≡◌, map, take}
-use Rattle.p9_manual.specs.History.{new_channel}
-use Rattle.p9_machine.proofs.begin.new_channels.Given as goal
-
-abbrev pub invariant-loop-c : goal.invariant-loop-c
-invariant-loop-c l = l.chans.items ≡ map new_channel (take l.c-index l.setups)

@@ -1,0 +1,59 @@
+-- The places of the calls in which threads wait, where one more waits or some are taken out.
+use Rattle.std.proofs.Common.{◌≡◌, ℕ, ◌+◌, ◌≤◌, Bool, true, false, cond, List, [], ◌∷◌, ◌++◌, map, refl, ap, arith}
+use Rattle.std.specs.Prelude.{All}
+use Rattle.std.specs.List.{filter, AllByRecursion}
+use Rattle.std.proofs.lemmas.List.Elements.{All-from_recursion, recursion_from_All, All-nil, All-push, All-same, All-filter, All-weaker}
+use Rattle.p9_manual.specs.declared.state.Waiter.{Waiter}
+use Rattle.p9_manual.specs.Standing.{IsRising}
+use Rattle.p9_manual.specs.Sound.{InOrder}
+
+every_step : {A B : Type 0} (P : B → Type 0) (f : A → B) (b : Bool) (x : A) (xs : List A) → P (f x) → AllByRecursion P (map f xs) → AllByRecursion P (map f (cond b (x ∷ xs) xs))
+every_step P f true x xs here rest = (here, rest)
+every_step P f false x xs here rest = rest
+
+every_filtered : {A B : Type 0} (P : B → Type 0) (f : A → B) (p : A → Bool) → (xs : List A) → AllByRecursion P (map f xs) → AllByRecursion P (map f (filter p xs))
+every_filtered P f p [] h = tt
+every_filtered P f p (x ∷ xs) h = every_step P f (p x) x (filter p xs) h.0 (every_filtered P f p xs h.1)
+
+all_filtered : {A B : Type 0} (P : B → Type 0) (f : A → B) (p : A → Bool) (xs : List A) → All P (map f xs) → All P (map f (filter p xs))
+all_filtered P f p xs h = All-from_recursion P (map f (filter p xs)) (every_filtered P f p xs (recursion_from_All P (map f xs) h))
+
+rising_step : {A : Type 0} (f : A → ℕ) (b : Bool) (x : A) (xs : List A) → All (λ m. f x + 1 ≤ m) (map f xs) → IsRising (map f xs) → IsRising (map f (cond b (x ∷ xs) xs))
+rising_step f true x xs above rest = (above, rest)
+rising_step f false x xs above rest = rest
+
+-- what rises still does with some left out
+pub rising_filtered : {A : Type 0} (f : A → ℕ) (p : A → Bool) → (xs : List A) → IsRising (map f xs) → IsRising (map f (filter p xs))
+rising_filtered f p [] h = tt
+rising_filtered f p (x ∷ xs) h = rising_step f (p x) x (filter p xs) (all_filtered (λ m. f x + 1 ≤ m) f p xs h.0) (rising_filtered f p xs h.1)
+
+map-push : {A B : Type 0} (f : A → B) (y : A) → (xs : List A) → map f (xs ++ y ∷ []) ≡ map f xs ++ f y ∷ []
+map-push f y [] = refl
+map-push f y (x ∷ xs) = ap (λ ys. f x ∷ ys) (map-push f y xs)
+
+-- and with a greater one at the end
+pub rising_pushed : {A : Type 0} (f : A → ℕ) (y : A) → (xs : List A) → AllByRecursion (λ x. f x + 1 ≤ f y) xs → IsRising (map f xs) → IsRising (map f (xs ++ y ∷ []))
+rising_pushed f y [] below h = (All-nil (λ m. f y + 1 ≤ m), tt)
+rising_pushed f y (x ∷ xs) below h =
+    (All-same (λ m. f x + 1 ≤ m) (map f (xs ++ y ∷ [])) (map f xs ++ f y ∷ []) (map-push f y xs) (All-push (λ m. f x + 1 ≤ m) (map f xs) (f y) h.0 below.0), rising_pushed f y xs below.1 h.1)
+
+pub nobody_in_order : (entries : ℕ) → InOrder entries []
+nobody_in_order entries = record { before = All-nil (λ (w : Waiter). w.at + 1 ≤ entries); rising = tt }
+
+-- without those that pass a test
+pub filtered_order : (entries : ℕ) (waits : List Waiter) (p : Waiter → Bool) → InOrder entries waits → InOrder entries (filter p waits)
+filtered_order entries waits p order =
+    record { before = All-filter p (λ (w : Waiter). w.at + 1 ≤ entries) waits order.before; rising = rising_filtered (λ (w : Waiter). w.at) p waits order.rising }
+
+-- after one more entry
+pub later_order : (entries : ℕ) (waits : List Waiter) → InOrder entries waits → InOrder (entries + 1) waits
+later_order entries waits order =
+    record { before = All-weaker (λ (w : Waiter). w.at + 1 ≤ entries) (λ (w : Waiter). w.at + 1 ≤ entries + 1) (λ w h. omega arith) waits order.before; rising = order.rising }
+
+-- with the wait of the call that makes this entry
+pub pushed_order : (waits : List Waiter) (w : Waiter) → InOrder w.at waits → InOrder (w.at + 1) (waits ++ w ∷ [])
+pushed_order waits w order =
+    record {
+      before = All-push (λ (x : Waiter). x.at + 1 ≤ w.at + 1) waits w (later_order w.at waits order).before (omega arith);
+      rising = rising_pushed (λ (x : Waiter). x.at) w waits (recursion_from_All (λ (x : Waiter). x.at + 1 ≤ w.at) waits order.before) order.rising;
+    }
