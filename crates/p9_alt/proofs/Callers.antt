@@ -11,8 +11,9 @@ use Rattle.p9_manual.specs.declared.state.Channel.{Channel}
 use Rattle.p9_manual.specs.declared.state.Element.{Element}
 use Rattle.p9_manual.specs.declared.state.Party.{Party}
 use Rattle.p9_manual.specs.Alt.{parties_without}
-use Rattle.p9_manual.specs.Commit.{Deal, commit, commit_op, commit_entry, commit_send, receive_from, failed, hand_over, pass_on, take_over, element, sent_bytes, refilled}
-use Rattle.p9_manual.specs.Offers.{sends_on, receives_on}
+use Rattle.p9_manual.specs.Commit.{Deal, commit, commit_op, commit_entry, commit_send, receive_from, failed, hand_over, pass_on, take_over, element, refilled}
+use Rattle.p9_manual.specs.Told.{sent_bytes}
+use Rattle.p9_manual.specs.Entries.{sends_on, receives_on}
 use Rattle.p9_manual.specs.Ready.{is_unbuffered}
 use Rattle.p9_manual.specs.State.{by_id}
 use Rattle.std.specs.Prelude.{slice_get}

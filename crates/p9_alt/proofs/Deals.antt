@@ -12,9 +12,9 @@ use Rattle.p9_manual.specs.declared.state.Channel.{Channel}
 use Rattle.p9_manual.specs.declared.state.Element.{Element}
 use Rattle.p9_manual.specs.declared.state.Party.{Party}
 use Rattle.p9_manual.specs.Alt.{parties_without}
-use Rattle.p9_manual.specs.Commit.{Deal, receive_from, pass_on, take_over, element, with_elements, sent_answer, sender_woken}
-use Rattle.p9_manual.specs.Commit.{refilled as refilled_with}
-use Rattle.p9_manual.specs.Offers.{sends_on, receives_on}
+use Rattle.p9_manual.specs.Commit.{Deal, receive_from, pass_on, take_over, element, with_elements, sender_woken, refilled as refilled_with}
+use Rattle.p9_manual.specs.Told.{sent_answer}
+use Rattle.p9_manual.specs.Entries.{sends_on, receives_on}
 use Rattle.p9_manual.specs.Ready.{unfreed}
 use Rattle.p9_manual.specs.State.{by_id}
 use Rattle.p9_chan.specs.Channels.{Channels, IsMade, chan_of, elements_in, cap_in, elsize_in, is_closed_in, has_room_in, is_live_in, left_in, refilled}

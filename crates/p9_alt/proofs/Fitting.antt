@@ -11,7 +11,7 @@ use Rattle.p9_word.specs.declared.alt.AltOp.TheVariants.{Snd, Rcv, Nop}
 use Rattle.p9_word.specs.declared.alt.Slot.{Slot}
 use Rattle.p9_manual.specs.declared.state.Channel.{Channel}
 use Rattle.p9_manual.specs.declared.state.Party.{Party}
-use Rattle.p9_manual.specs.Offers.{is_nop}
+use Rattle.p9_manual.specs.Entries.{is_nop}
 use Rattle.p9_manual.specs.Ready.{fits, fits_entry, fits_channel, goes_with, unfreed, can_go_on, is_ready}
 use Rattle.p9_manual.specs.State.{by_id}
 use Rattle.p9_chan.specs.Channels.{Channels, IsMade, chan_of, is_live_in}

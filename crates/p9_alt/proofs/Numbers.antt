@@ -4,12 +4,12 @@ use Rattle.std.proofs.lemmas.List.{drop_more, at_drop_all, take_more, take_all}
 use Rattle.std.proofs.lemmas.List.Elements.{All-more, All-weaker, All-same}
 use Rattle.std.proofs.lemmas.Bool.{ltb-true, ltb-false}
 use Rattle.std.proofs.lemmas.Option.{slice_get_read, slice_get_past}
-use Rattle.std.specs.Prelude.{Some, None, ◌||◌, nat_lt, slice_get}
+use Rattle.std.specs.Prelude.{Some, None, IfSome, ◌||◌, nat_lt, slice_get, slice_set}
 use Rattle.std.specs.List.{list_any}
 use Rattle.p9_word.specs.declared.alt.AltEntry.{AltEntry}
 use Rattle.p9_word.specs.declared.alt.Slot.{Slot}
 use Rattle.p9_word.specs.declared.alt.Slot.TheVariants.{Null}
-use Rattle.p9_manual.specs.Offers.{first_number, first_slot}
+use Rattle.p9_manual.specs.Entries.{first_number, first_slot}
 use Rattle.p9_manual.specs.Ready.{numbers_of}
 
 -- what stands at i comes next
@@ -125,3 +125,30 @@ bounded_more f es i m n x lt at le fx h =
 
 pub bounded_all : (f : AltEntry → ℕ) (es : List AltEntry) (i m : ℕ) → length es ≤ i → All (λ e. f e ≤ m) (take i es) → All (λ e. f e ≤ m) es
 bounded_all f es i m le h = All-same (λ e. f e ≤ m) es (take i es) (sym (take_all i es le)) h
+
+only_by : (b : Bool) (n : ℕ) → n < length {A = ℕ} (cond b (0 ∷ []) []) → ◌≡◌ {A = ℕ} 0 (get_or (cond b (0 ∷ []) []) n 0)
+only_by true zero lt = refl
+only_by true (suc n) lt = absurd (omega arith)
+only_by false n lt = absurd (omega arith)
+
+-- of one entry alone that which is ready is the first
+pub only_number : (p : AltEntry → Bool) (es : List AltEntry) (n : ℕ) → length es ≡ 1 → n < length (numbers_of p 0 es) → 0 ≡ get_or (numbers_of p 0 es) n 0
+only_number p [] n one lt = absurd (omega arith)
+only_number p (e ∷ []) n one lt = only_by (p e) n lt
+only_number p (e ∷ f ∷ es) n one lt = absurd (omega arith)
+
+passes_by : (b : Bool) (n : ℕ) → n < length {A = ℕ} (cond b (0 ∷ []) []) → b ≡ true
+passes_by true n lt = refl
+passes_by false n lt = absurd (omega arith)
+
+-- and it passes
+pub only_ready : (p : AltEntry → Bool) (es : List AltEntry) (n : ℕ) → length es ≡ 1 → n < length (numbers_of p 0 es) → IfSome (slice_get es 0) (λ e. p e ≡ true)
+only_ready p [] n one lt = absurd (omega arith)
+only_ready p (e ∷ []) n one lt = passes_by (p e) n lt
+only_ready p (e ∷ f ∷ es) n one lt = absurd (omega arith)
+
+-- the one item of a list is replaced
+pub only_set : {A : Type 0} (xs : List A) (x y : A) → length xs ≡ 1 → y ≡ x → slice_set xs 0 y ≡ x ∷ []
+only_set [] x y one e = absurd (omega arith)
+only_set (z ∷ []) x y one e = ap (λ w. w ∷ []) e
+only_set (z ∷ w ∷ zs) x y one e = absurd (omega arith)

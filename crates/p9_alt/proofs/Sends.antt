@@ -13,7 +13,7 @@ use Rattle.p9_manual.specs.declared.state.Party.{Party}
 use Rattle.p9_word.specs.declared.alt.Ending.{Ending}
 use Rattle.p9_word.specs.declared.alt.Ending.TheVariants.{End, NoBlk}
 use Rattle.p9_manual.specs.Alt.{parties_without, unready}
-use Rattle.p9_manual.specs.Offers.{is_snd, sends_to, sends_on}
+use Rattle.p9_manual.specs.Entries.{is_snd, sends_to, sends_on}
 use Rattle.p9_manual.specs.Ready.{can_go_on, is_ready, numbers_of, ready_entries}
 use Rattle.p9_manual.specs.Standing.{times}
 use Rattle.p9_manual.specs.State.{by_id}

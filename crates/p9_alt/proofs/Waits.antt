@@ -3,13 +3,14 @@ use Rattle.std.proofs.Common.{◌≡◌, ℕ, zero, suc, ◌+◌, ◌<◌, ◌�
 use Rattle.std.proofs.lemmas.Bool.{eq-eqb}
 use Rattle.std.proofs.lemmas.List.{at_drop_all, append_assoc, append-nil, map_push, map-append}
 use Rattle.std.proofs.lemmas.List.Elements.{All-filter, filter_more}
+use Rattle.std.proofs.lemmas.List.Sums.{sum_by-drop_more}
 use Rattle.std.proofs.lemmas.Option.{slice_get_read, slice_get_past}
-use Rattle.std.specs.Prelude.{Some, ◌==◌, slice_get, remove, vec_len, vec_capacity, Vec}
+use Rattle.std.specs.Prelude.{Some, ◌==◌, count_by, slice_get, remove, vec_len, vec_capacity, Vec}
 use Rattle.std.specs.List.{find, filter}
 use Rattle.std.specs.declared.alloc.Global.{Global}
 use Rattle.p9_manual.specs.declared.state.Party.{Party}
 use Rattle.p9_manual.specs.Standing.{times}
-use Rattle.p9_manual.specs.Offers.{waits_on}
+use Rattle.p9_manual.specs.Entries.{waits_on}
 use Rattle.p9_manual.specs.Close.{all_failed, failed_on}
 use Rattle.p9_alt.specs.declared.offer.Wake.{Wake}
 use Rattle.p9_alt.specs.Exchange.{pair_of}
@@ -113,3 +114,19 @@ failed_no c ws i w lt at off =
 pub woken_more : (c : ℕ) (ws : List Party) (i : ℕ) (w : Party) (old now next : List Wake) (wake : Wake) → i < length ws → w ≡ get_or ws i w → waits_on c w ≡ true → pair_of wake ≡ failed_on c w → map pair_of now ≡ map pair_of old ++ all_failed c (take i ws) → next ≡ now ++ wake ∷ [] → map pair_of next ≡ map pair_of old ++ all_failed c (take (i + 1) ws)
 woken_more c ws i w old now next wake lt at on is so next_is =
     rw (next_is, map_push pair_of now wake, so, is, failed_yes c ws i w lt at on) (append_assoc (map pair_of old) (all_failed c (take i ws)) (failed_on c w ∷ []))
+
+-- of those from i on the first waits on the channel
+pub waiting_first : (c : ℕ) (ws : List Party) (i : ℕ) (w : Party) → i < length ws → w ≡ get_or ws i w → waits_on c w ≡ true → count_by (waits_on c) (drop i ws) ≡ 1 + count_by (waits_on c) (drop (i + 1) ws)
+waiting_first c ws i w lt at on =
+    let one : cond {A = ℕ} (waits_on c (get_or ws i w)) 1 0 ≡ 1 = ap (λ (x : Party). cond {A = ℕ} (waits_on c x) 1 0) (sym at) ∙ ap (λ (b : Bool). cond {A = ℕ} b 1 0) on in
+    omega (arith, sum_by-drop_more (λ (x : Party). cond {A = ℕ} (waits_on c x) 1 0) ws i w lt)
+
+-- or it doesn't
+pub waiting_later : (c : ℕ) (ws : List Party) (i : ℕ) (w : Party) → i < length ws → w ≡ get_or ws i w → waits_on c w ≡ false → count_by (waits_on c) (drop i ws) ≡ count_by (waits_on c) (drop (i + 1) ws)
+waiting_later c ws i w lt at off =
+    let none : cond {A = ℕ} (waits_on c (get_or ws i w)) 1 0 ≡ 0 = ap (λ (x : Party). cond {A = ℕ} (waits_on c x) 1 0) (sym at) ∙ ap (λ (b : Bool). cond {A = ℕ} b 1 0) off in
+    omega (arith, sum_by-drop_more (λ (x : Party). cond {A = ℕ} (waits_on c x) 1 0) ws i w lt)
+
+-- a thread that doesn't wait has none of the waits
+pub others_all : (t : ℕ) (ws : List Party) → times (λ w. w.tid == t) ws ≡ 0 → filter (λ w. not (w.tid == t)) ws ≡ ws
+others_all t ws e = filter_none (is_of t) ws e

@@ -10,7 +10,7 @@ use Rattle.p9_word.specs.declared.answer.Answer.{Answer}
 use Rattle.p9_manual.specs.declared.state.Channel.{Channel}
 use Rattle.p9_manual.specs.declared.state.Party.{Party}
 use Rattle.p9_manual.specs.Alt.{Verdict, AllClosed, Commits, NoneReady, MustWait, parties_without}
-use Rattle.p9_manual.specs.Offers.{sends_to, sends_on, waits_on, first_slot}
+use Rattle.p9_manual.specs.Entries.{sends_to, sends_on, waits_on, first_slot}
 use Rattle.p9_manual.specs.Ready.{unfreed}
 use Rattle.p9_manual.specs.Standing.{times}
 use Rattle.p9_manual.specs.State.{by_id}
@@ -19,9 +19,10 @@ use Rattle.p9_alt.specs.declared.offer.Offer.{Offer}
 use Rattle.p9_alt.specs.declared.offer.Offer.TheVariants as offer
 use Rattle.p9_alt.specs.declared.offer.Wake.{Wake}
 
--- the memory that was taken for an offer: for one more alt that waits, and for so many zeros
+-- the memory that was taken for an offer: for one more alt that waits, for a list of one entry, and for so many zeros
 pub record Spare : Type 0 where
   pub waiter : Bool
+  pub one : Bool
   pub zeros : ℕ
 
 -- the channels, and the alts that wait in the order in which they came
@@ -55,6 +56,10 @@ zeros_for chans waits e = zeros_by e.op e.slot e.chan (elsize_in (unfreed (by_id
 pub record HasMemory (entries : List AltEntry) (x : Exchange) : Type 0 where
   pub waiter : x.spare.waiter ≡ true
   pub zeros : All (λ e. zeros_for x.channels.chans x.waits e ≤ x.spare.zeros) entries
+
+-- the alts that wait, but for those of thread t
+abbrev pub others : ℕ → List Party → List Party
+others t waits = filter (λ w. not (w.tid == t)) waits
 
 -- nobody waits to send on a closed channel
 abbrev pub NoSendOnClosed : Exchange → Type 0

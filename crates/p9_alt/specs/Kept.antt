@@ -7,7 +7,7 @@ use Rattle.p9_alt.specs.declared.alts.Alts.TheInside.{Inside}
 
 -- what callers see
 abbrev pub shown : Inside → Exchange
-shown s = record { channels = s.chans; waits = s.waits.items; spare = record { waiter = s.waiter; zeros = s.zeros } }
+shown s = record { channels = s.chans; waits = s.waits.items; spare = record { waiter = s.waiter; one = s.lists; zeros = s.zeros } }
 
 -- one place of memory, if it is there
 abbrev pub one_if : Bool → ℕ

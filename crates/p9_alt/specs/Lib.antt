@@ -1,4 +1,5 @@
 pub mod Exchange
+pub mod For
 pub mod Kept
 pub mod Lends
 pub mod Passing

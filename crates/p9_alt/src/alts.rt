@@ -1,21 +1,22 @@
-ghost use Rattle.std.specs.Prelude.{◌≡◌, ◌==◌, ◌≤◌, ◌+◌, ◌<◌, ◌∷◌, ◌++◌, [], None, Some, not, false, true, length, map, OnOk, IfSome};
+ghost use Rattle.std.specs.Prelude.{◌≡◌, ◌==◌, ◌≤◌, ◌<◌, ◌∷◌, ◌++◌, [], None, not, false, true, length, map, count_by, OnOk};
 ghost use Rattle.std.specs.List.{list_any, find};
 ghost use Rattle.std.specs.Option.{option_map};
 ghost use Rattle.std.specs.Borrow.{sem};
 ghost use Rattle.p9_manual.specs.Alt.{verdict, unready};
 ghost use Rattle.p9_manual.specs.Close.{all_failed};
-ghost use Rattle.p9_manual.specs.Offers.{waits_on};
+ghost use Rattle.p9_manual.specs.Entries.{waits_on};
 ghost use Rattle.p9_manual.specs.Ready.{fits, ready_entries};
-ghost use Rattle.p9_chan.specs.Channels.{IsMade, chan_of, is_closed_in};
-ghost use Rattle.p9_alt.specs.Exchange.{HasMemory, NoSendOnClosed, IsIdle, AreBefore, offer_of, wake_of, chans_after, waits_after, pair_of, closed_on, shown_alt};
+ghost use Rattle.p9_chan.specs.Channels.{IsMade, chan_of, is_closed_in, emptied, freed};
+ghost use Rattle.p9_alt.specs.Exchange.{others, HasMemory, NoSendOnClosed, IsIdle, AreBefore, offer_of, wake_of, chans_after, waits_after, pair_of, closed_on, shown_alt};
 ghost use Rattle.p9_alt.specs.Passing.{nth_deal, IsDealt, IsLeft};
 
 use crate::answers::fail_all;
 use crate::commit::{Done, Turn, commit};
 use crate::entries::{entry_out, fits, is_closed_list};
+use crate::lists::Lists;
 use crate::offer::{Offer, Wake};
-use crate::queue::is_awaited;
-use crate::ready::{most_zeros, ready_at, ready_count};
+use crate::queue::{awaiting, is_awaited};
+use crate::ready::{idle_count, most_zeros, ready_count, ready_number, zeros_for};
 use crate::side::Side;
 use crate::zeros::Zeros;
 use p9_chan::Chans;
@@ -32,6 +33,7 @@ pub struct Alts {
     chans: Chans,
     waits: Vec<Party>,
     waiter: bool,
+    lists: Lists,
     zeros: Zeros,
 }
 
@@ -60,6 +62,7 @@ impl Alts {
             chans: Chans::new(alloc),
             waits: Vec::new(alloc),
             waiter: false,
+            lists: Lists::new(alloc),
             zeros: Zeros::new(alloc),
         }
     }
@@ -93,10 +96,42 @@ impl Alts {
         ensures memory { OnOk result (HasMemory entries.now self.new) }
     {
         let zeros = most_zeros(&self.chans, &self.waits, entries.as_slice());
+        self.make_room(zeros)
+    }
+
+    /// Takes all the memory that an offer of this entry alone may need, and that of its list. A refusal changes nothing.
+    pub fn reserve_one(&mut self, entry: &AltEntry) -> Result<(), NoMemory>
+        ensures channels { self.new.channels ≡ self.old.channels }
+        ensures waits { self.new.waits ≡ self.old.waits }
+        ensures one { OnOk result (self.new.spare.one ≡ true) }
+        ensures memory { OnOk result (HasMemory (entry.now ∷ []) self.new) }
+    {
+        self.lists.reserve()?;
+        let zeros = zeros_for(&self.chans, &self.waits, entry);
+        self.make_room(zeros)
+    }
+
+    /// Takes the memory for one more alt that waits, and for so many zeros.
+    fn make_room(&mut self, zeros: u32) -> Result<(), NoMemory>
+        ensures channels { self.new.channels ≡ self.old.channels }
+        ensures waits { self.new.waits ≡ self.old.waits }
+        ensures one { self.new.spare.one ≡ self.old.spare.one }
+        ensures waiter { OnOk result (self.new.spare.waiter ≡ true) }
+        ensures zeros { OnOk result (zeros ≤ self.new.spare.zeros) }
+    {
         self.zeros.reserve(zeros)?;
         self.waits.reserve(1)?;
         self.waiter = true;
         Ok(())
+    }
+
+    /// The list of this entry alone, in the memory that a reserve took for it.
+    pub fn one(&mut self, entry: AltEntry) -> Seq<AltEntry>
+        requires { self.old.spare.one ≡ true }
+        ensures list { result ≡ entry ∷ [] }
+        ensures rest { self.new ≡ record self.old { spare = record self.old.spare { one = false } } }
+    {
+        self.lists.take(entry)
     }
 
     /// Whether these entries may be asked for: there are at most 64, each slot goes with its op, and each entry in use
@@ -107,12 +142,12 @@ impl Alts {
         fits(&self.chans, entries.as_slice())
     }
 
-    /// How many of these entries are ready. No thread that waits here is the caller.
-    pub fn ready_count(&self, _tid: Tid, entries: &Seq<AltEntry>) -> u32
+    /// How many of these entries of a thread are ready. It is never its own partner.
+    pub fn ready_count(&self, tid: Tid, entries: &Seq<AltEntry>) -> u32
         requires { fits self.now.channels.chans entries.now ≡ true }
-        ensures { result ≡ length (ready_entries self.now.channels.chans self.now.waits entries.now) }
+        ensures { result ≡ length (ready_entries self.now.channels.chans (others tid self.now.waits) entries.now) }
     {
-        ready_count(&self.chans, &self.waits, entries.as_slice())
+        ready_count(&self.chans, &self.waits, tid, entries.as_slice())
     }
 
     /// An alt of a thread, whose call has this place in the trail. Of several ready entries the word `w` chooses one, by
@@ -132,10 +167,35 @@ impl Alts {
         requires idle { IsIdle tid self.old }
         requires before { AreBefore at self.old }
         requires open { NoSendOnClosed self.old }
-        ensures told { result ≡ offer_of (verdict w (record { tid = tid; at = at; single = single; entries = entries }) ending self.old.channels.chans self.old.waits) }
-        ensures woken { woken.new ≡ wake_of (verdict w (record { tid = tid; at = at; single = single; entries = entries }) ending self.old.channels.chans self.old.waits) }
-        ensures chans { self.new.channels.chans ≡ chans_after (verdict w (record { tid = tid; at = at; single = single; entries = entries }) ending self.old.channels.chans self.old.waits) self.old.channels.chans }
-        ensures waits { self.new.waits ≡ waits_after (verdict w (record { tid = tid; at = at; single = single; entries = entries }) ending self.old.channels.chans self.old.waits) (record { tid = tid; at = at; single = single; entries = entries }) self.old.waits }
+        ensures told { result ≡ offer_of (verdict w (record {
+          tid = tid;
+          at = at;
+          single = single;
+          entries = entries;
+        }) ending self.old.channels.chans self.old.waits) }
+        ensures woken { woken.new ≡ wake_of (verdict w (record {
+          tid = tid;
+          at = at;
+          single = single;
+          entries = entries;
+        }) ending self.old.channels.chans self.old.waits) }
+        ensures chans { self.new.channels.chans ≡ chans_after (verdict w (record {
+          tid = tid;
+          at = at;
+          single = single;
+          entries = entries;
+        }) ending self.old.channels.chans self.old.waits) self.old.channels.chans }
+        ensures waits { self.new.waits ≡ waits_after (verdict w (record {
+          tid = tid;
+          at = at;
+          single = single;
+          entries = entries;
+        }) ending self.old.channels.chans self.old.waits) (record {
+          tid = tid;
+          at = at;
+          single = single;
+          entries = entries;
+        }) self.old.waits }
         ensures room { self.new.channels.room ≡ self.old.channels.room }
         ensures open { NoSendOnClosed self.new }
     {
@@ -149,7 +209,7 @@ impl Alts {
         if is_closed_list(me.entries.as_slice()) {
             return Offer::Closed;
         }
-        let ready = ready_count(&self.chans, &self.waits, me.entries.as_slice());
+        let ready = idle_count(&self.chans, &self.waits, me.tid, me.entries.as_slice());
         if ready == 0 {
             return self.unready(me, ending);
         }
@@ -159,7 +219,8 @@ impl Alts {
     }
 
     /// Of the caller's ready entries the one with this number goes on.
-    fn go_on(&mut self, me: Party, n: u32) -> Done
+    fn go_on(&mut self, mut me: Party, n: u32) -> Done
+        requires idle { IsIdle me.tid self.old }
         requires fits { fits self.old.channels.chans me.entries ≡ true }
         requires zeros { HasMemory me.entries self.old }
         requires within { n < length (ready_entries self.old.channels.chans self.old.waits me.entries) }
@@ -169,17 +230,19 @@ impl Alts {
         ensures room { self.new.channels.room ≡ self.old.channels.room }
         ensures open { NoSendOnClosed self.new }
     {
-        let i = ready_at(&self.chans, &self.waits, me.entries.as_slice(), n);
+        let i = ready_number(&self.chans, &self.waits, me.tid, me.entries.as_slice(), n);
         let turn = Turn {
             at: me.at,
             single: me.single,
             i: i as u32,
         };
-        let entry = entry_out(me.entries, i);
+        let entry = entry_out(&mut me.entries, i);
+        self.lists.keep(me.entries);
         commit(
             &mut self.chans,
             &mut self.waits,
             &mut self.zeros,
+            &mut self.lists,
             turn,
             entry,
         )
@@ -208,7 +271,7 @@ impl Alts {
     /// where the channel was closed already, and then nothing changes.
     pub fn close(&mut self, c: u32, woken: &mut Room<Wake>) -> bool
         requires made { IsMade c self.old.channels }
-        requires spare { length self.old.waits ≤ woken.old.spare }
+        requires spare { count_by (waits_on c) self.old.waits ≤ woken.old.spare }
         ensures first { result ≡ not (is_closed_in (chan_of c self.old.channels)) }
         ensures again { result ≡ false → (self.new ≡ self.old) × (woken.new ≡ woken.old) }
         ensures closed { result ≡ true → self.new ≡ closed_on c self.old }
@@ -221,6 +284,23 @@ impl Alts {
         fail_all(&self.waits, c, woken);
         self.waits.retain(|w| !Side::Either.is_in(c, w));
         true
+    }
+
+    /// Frees channel c. Its elements go at once, also where threads wait on it: no request can reach them any more.
+    /// chanfree in thread(2).
+    pub fn free(&mut self, c: u32)
+        requires { IsMade c self.old.channels }
+        ensures { self.new ≡ record self.old { channels = emptied c (freed c self.old.channels) } }
+    {
+        self.chans.free(c);
+        self.chans.drop_freed(c);
+    }
+
+    /// How many threads wait on channel c.
+    pub fn awaiting(&self, c: u32) -> usize
+        ensures { result ≡ count_by (waits_on c) self.now.waits }
+    {
+        awaiting(&self.waits, Side::Either, c)
     }
 
     /// Nobody waits any more, and nobody is woken.

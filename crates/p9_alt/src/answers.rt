@@ -1,7 +1,7 @@
-ghost use Rattle.std.specs.Prelude.{◌≡◌, ◌≤◌, ◌++◌, length, map, All};
-ghost use Rattle.p9_manual.specs.Commit.{sent_answer, got_answer, failed_answer, receiver_answer, sender_answer, kept_bytes};
+ghost use Rattle.std.specs.Prelude.{◌≡◌, ◌≤◌, ◌++◌, length, map, count_by, All};
+ghost use Rattle.p9_manual.specs.Told.{sent_answer, got_answer, failed_answer, receiver_answer, sender_answer, kept_bytes};
 ghost use Rattle.p9_manual.specs.Close.{all_failed, failed_on};
-ghost use Rattle.p9_manual.specs.Offers.{first_slot};
+ghost use Rattle.p9_manual.specs.Entries.{first_slot, waits_on};
 ghost use Rattle.p9_alt.specs.Exchange.{pair_of};
 ghost use Rattle.p9_alt.specs.Sides.{entry_test};
 
@@ -101,7 +101,7 @@ fn failed_wake(w: &Party, c: u32) -> Wake
 /// Puts each thread that waits on channel c last into `woken`, with the answer that the channel is closed.
 pub(crate) fn fail_all(waits: &[Party], c: u32, woken: &mut Room<Wake>)
     requires few { All (λ w. length w.entries ≤ 64) waits.now }
-    requires spare { length waits.now ≤ woken.old.spare }
+    requires spare { count_by (waits_on c) waits.now ≤ woken.old.spare }
     ensures { map pair_of woken.new.items ≡ map pair_of woken.old.items ++ all_failed c waits.now }
 {
     for w in waits {

@@ -1,11 +1,12 @@
-ghost use Rattle.std.specs.Prelude.{◌≡◌, ◌≤◌, ◌+◌, None, true, false, length, vec_capacity, vec_len};
+ghost use Rattle.std.specs.Prelude.{◌≡◌, ◌≤◌, None, true, length};
 ghost use Rattle.std.specs.List.{find};
 ghost use Rattle.p9_word.specs.declared.alt.AltOp.TheVariants.{Snd, Rcv};
 ghost use Rattle.p9_word.specs.declared.alt.Slot.TheVariants.{Give};
-ghost use Rattle.p9_manual.specs.Commit.{refilled, sender_woken, failed_answer};
-ghost use Rattle.p9_manual.specs.Offers.{sends_on, receives_on};
+ghost use Rattle.p9_manual.specs.Commit.{refilled, sender_woken};
+ghost use Rattle.p9_manual.specs.Told.{failed_answer};
+ghost use Rattle.p9_manual.specs.Entries.{sends_on, receives_on};
 ghost use Rattle.p9_manual.specs.Ready.{can_go_on, is_ready};
-ghost use Rattle.p9_chan.specs.Channels.{IsMade, chan_of, elements_in, elsize_in, cap_in, has_room_in, is_closed_in, is_live_in};
+ghost use Rattle.p9_chan.specs.Channels.{IsMade, chan_of, elements_in, elsize_in, has_room_in, is_closed_in, is_live_in};
 ghost use Rattle.p9_chan.specs.Channels.{refilled as refilled_on};
 ghost use Rattle.p9_alt.specs.Exchange.{wake_with, zeros_of, zeros_for};
 ghost use Rattle.p9_alt.specs.Kept.{IsQueue};
@@ -13,6 +14,7 @@ ghost use Rattle.p9_alt.specs.Passing.{without, deal_of, receiver_wake, receiver
 
 use crate::answers::{failed_answer, got_answer, receiver_answer, sender_answer, sent_answer};
 use crate::entries::{kept, value_of, value_out};
+use crate::lists::Lists;
 use crate::offer::Wake;
 use crate::queue::first_out;
 use crate::side::Side;
@@ -48,18 +50,20 @@ fn failed(turn: Turn) -> Done
 }
 
 /// Wakes a thread that waited to receive on channel c, with a value.
-fn wake_receiver(w: Party, c: u32, from: u64, value: Msg) -> Wake
+fn wake_receiver(w: Party, lists: &mut Lists, c: u32, from: u64, value: Msg) -> Wake
     requires { length w.entries ≤ 64 }
     ensures { result ≡ receiver_wake c from value w }
 {
-    Wake {
+    let wake = Wake {
         tid: w.tid,
         answer: receiver_answer(&w, c, from, value),
-    }
+    };
+    lists.keep(w.entries);
+    wake
 }
 
 /// Hands the caller's value over to the thread that waits longest to receive on channel c.
-fn hand_over(waits: &mut Vec<Party>, turn: Turn, c: u32, value: Msg) -> Done
+fn hand_over(waits: &mut Vec<Party>, lists: &mut Lists, turn: Turn, c: u32, value: Msg) -> Done
     requires { IsQueue waits.old.items }
     ensures answer { result.answer ≡ handed_answer turn (find (receives_on c) waits.old.items) }
     ensures woken { result.woken ≡ receiver_woken c turn.at value (find (receives_on c) waits.old.items) }
@@ -69,36 +73,45 @@ fn hand_over(waits: &mut Vec<Party>, turn: Turn, c: u32, value: Msg) -> Done
     match first_out(waits, Side::Receives, c) {
         Some(w) => Done {
             answer: sent_answer(turn.single, turn.i),
-            woken: Some(wake_receiver(w, c, turn.at, value)),
+            woken: Some(wake_receiver(w, lists, c, turn.at, value)),
         },
         None => failed(turn),
     }
 }
 
 /// Gives the front element of channel c to the thread that waits longest to receive there, if one does.
-fn pass_on(chans: &mut Chans, waits: &mut Vec<Party>, c: u32) -> Option<Wake>
+fn pass_on(chans: &mut Chans, waits: &mut Vec<Party>, lists: &mut Lists, c: u32) -> Option<Wake>
     requires made { IsMade c chans.old }
     requires filled { 1 ≤ length (elements_in (chan_of c chans.old)) }
     requires queue { IsQueue waits.old.items }
     ensures woken { result ≡ passed_wake c (find (receives_on c) waits.old.items) (elements_in (chan_of c chans.old)) }
-    ensures chans { chans.new ≡ refilled_on c (passed_rest (find (receives_on c) waits.old.items) (elements_in (chan_of c chans.old))) chans.old }
+    ensures chans { chans.new ≡ refilled_on c
+        (passed_rest (find (receives_on c) waits.old.items) (elements_in (chan_of c chans.old))) chans.old }
     ensures waits { waits.new.items ≡ without (find (receives_on c) waits.old.items) waits.old.items }
     ensures less { IsLess waits.old waits.new }
 {
     let w = first_out(waits, Side::Receives, c)?;
     match chans.take(c) {
-        Some(x) => Some(wake_receiver(w, c, x.from, x.msg)),
+        Some(x) => Some(wake_receiver(w, lists, c, x.from, x.msg)),
         None => unreachable!(),
     }
 }
 
 /// A send of the caller on channel c goes on.
-fn send(chans: &mut Chans, waits: &mut Vec<Party>, turn: Turn, c: u32, value: Msg) -> Done
+fn send(
+    chans: &mut Chans,
+    waits: &mut Vec<Party>,
+    lists: &mut Lists,
+    turn: Turn,
+    c: u32,
+    value: Msg,
+) -> Done
     requires made { IsMade c chans.old }
     requires ready { can_go_on Snd c (chan_of c chans.old) waits.old.items ≡ true }
     requires queue { IsQueue waits.old.items }
     ensures dealt { IsDealt (deal_of turn Snd (Give value) c chans.old.chans waits.old.items) result }
-    ensures left { IsLeft (deal_of turn Snd (Give value) c chans.old.chans waits.old.items) waits.old.items chans.new.chans waits.new.items }
+    ensures left { IsLeft (deal_of turn Snd (Give value) c chans.old.chans waits.old.items)
+        waits.old.items chans.new.chans waits.new.items }
     ensures room { chans.new.room ≡ chans.old.room }
     ensures less { IsLess waits.old waits.new }
 {
@@ -106,14 +119,14 @@ fn send(chans: &mut Chans, waits: &mut Vec<Party>, turn: Turn, c: u32, value: Ms
         return failed(turn);
     }
     if chans.cap(c) == 0 {
-        return hand_over(waits, turn, c, value);
+        return hand_over(waits, lists, turn, c, value);
     }
     let element = Element {
         from: turn.at,
         msg: value,
     };
     chans.put(c, element);
-    let woken = pass_on(chans, waits, c);
+    let woken = pass_on(chans, waits, lists, c);
     Done {
         answer: sent_answer(turn.single, turn.i),
         woken,
@@ -124,6 +137,7 @@ fn send(chans: &mut Chans, waits: &mut Vec<Party>, turn: Turn, c: u32, value: Ms
 fn sender_out(
     waits: &mut Vec<Party>,
     zeros: &mut Zeros,
+    lists: &mut Lists,
     c: u32,
     elsize: u32,
 ) -> Option<(Wake, Element)>
@@ -133,29 +147,37 @@ fn sender_out(
     ensures waits { waits.new.items ≡ without (find (sends_on c) waits.old.items) waits.old.items }
     ensures less { IsLess waits.old waits.new }
 {
-    let w = first_out(waits, Side::Sends, c)?;
+    let mut w = first_out(waits, Side::Sends, c)?;
     let wake = Wake {
         tid: w.tid,
         answer: sender_answer(&w, c),
     };
     let from = w.at;
-    let msg = value_out(w, c, elsize, zeros);
+    let msg = value_out(&mut w, c, elsize, zeros);
+    lists.keep(w.entries);
     Some((wake, Element { from, msg }))
 }
 
 /// Puts the value of the thread that waits longest to send on channel c, if one does.
-fn refill(chans: &mut Chans, waits: &mut Vec<Party>, zeros: &mut Zeros, c: u32) -> Option<Wake>
+fn refill(
+    chans: &mut Chans,
+    waits: &mut Vec<Party>,
+    zeros: &mut Zeros,
+    lists: &mut Lists,
+    c: u32,
+) -> Option<Wake>
     requires made { IsMade c chans.old }
     requires room { has_room_in (chan_of c chans.old) ≡ true }
     requires open { is_closed_in (chan_of c chans.old) ≡ true → find (sends_on c) waits.old.items ≡ None }
     requires zeros { zeros_of c (elsize_in (chan_of c chans.old)) (find (sends_on c) waits.old.items) ≤ zeros.old }
     requires queue { IsQueue waits.old.items }
     ensures woken { result ≡ wake_with (sender_woken c (find (sends_on c) waits.old.items)) }
-    ensures chans { chans.new ≡ refilled_on c (refilled c (elsize_in (chan_of c chans.old)) (elements_in (chan_of c chans.old)) (find (sends_on c) waits.old.items)) chans.old }
+    ensures chans { chans.new ≡ refilled_on c
+        (refilled c (elsize_in (chan_of c chans.old)) (elements_in (chan_of c chans.old)) (find (sends_on c) waits.old.items)) chans.old }
     ensures waits { waits.new.items ≡ without (find (sends_on c) waits.old.items) waits.old.items }
     ensures less { IsLess waits.old waits.new }
 {
-    let (wake, element) = sender_out(waits, zeros, c, chans.elsize(c))?;
+    let (wake, element) = sender_out(waits, zeros, lists, c, chans.elsize(c))?;
     chans.put(c, element);
     Some(wake)
 }
@@ -164,6 +186,7 @@ fn refill(chans: &mut Chans, waits: &mut Vec<Party>, zeros: &mut Zeros, c: u32) 
 fn take_over(
     waits: &mut Vec<Party>,
     zeros: &mut Zeros,
+    lists: &mut Lists,
     turn: Turn,
     c: u32,
     elsize: u32,
@@ -176,7 +199,7 @@ fn take_over(
     ensures waits { waits.new.items ≡ without (find (sends_on c) waits.old.items) waits.old.items }
     ensures less { IsLess waits.old waits.new }
 {
-    match sender_out(waits, zeros, c, elsize) {
+    match sender_out(waits, zeros, lists, c, elsize) {
         Some((wake, x)) => Done {
             answer: got_answer(turn.single, turn.i, x.from, kept(&slot, x.msg)),
             woken: Some(wake),
@@ -190,6 +213,7 @@ fn receive(
     chans: &mut Chans,
     waits: &mut Vec<Party>,
     zeros: &mut Zeros,
+    lists: &mut Lists,
     turn: Turn,
     c: u32,
     slot: Slot,
@@ -205,7 +229,7 @@ fn receive(
 {
     match chans.take(c) {
         Some(x) => {
-            let woken = refill(chans, waits, zeros, c);
+            let woken = refill(chans, waits, zeros, lists, c);
             Done {
                 answer: got_answer(turn.single, turn.i, x.from, kept(&slot, x.msg)),
                 woken,
@@ -215,7 +239,7 @@ fn receive(
             if chans.closing(c).is_some() {
                 failed(turn)
             } else {
-                take_over(waits, zeros, turn, c, chans.elsize(c), slot)
+                take_over(waits, zeros, lists, turn, c, chans.elsize(c), slot)
             }
         }
     }
@@ -226,6 +250,7 @@ pub(crate) fn commit(
     chans: &mut Chans,
     waits: &mut Vec<Party>,
     zeros: &mut Zeros,
+    lists: &mut Lists,
     turn: Turn,
     entry: AltEntry,
 ) -> Done
@@ -236,7 +261,8 @@ pub(crate) fn commit(
     requires zeros { zeros_for chans.old.chans waits.old.items entry ≤ zeros.old }
     requires queue { IsQueue waits.old.items }
     ensures dealt { IsDealt (deal_of turn entry.op entry.slot entry.chan chans.old.chans waits.old.items) result }
-    ensures left { IsLeft (deal_of turn entry.op entry.slot entry.chan chans.old.chans waits.old.items) waits.old.items chans.new.chans waits.new.items }
+    ensures left { IsLeft (deal_of turn entry.op entry.slot entry.chan chans.old.chans waits.old.items)
+        waits.old.items chans.new.chans waits.new.items }
     ensures room { chans.new.room ≡ chans.old.room }
     ensures less { IsLess waits.old waits.new }
 {
@@ -244,9 +270,9 @@ pub(crate) fn commit(
     match entry.op {
         AltOp::Snd => {
             let value = value_of(entry.slot, chans.elsize(c), zeros);
-            send(chans, waits, turn, c, value)
+            send(chans, waits, lists, turn, c, value)
         }
-        AltOp::Rcv => receive(chans, waits, zeros, turn, c, entry.slot),
+        AltOp::Rcv => receive(chans, waits, zeros, lists, turn, c, entry.slot),
         AltOp::Nop => failed(turn),
     }
 }

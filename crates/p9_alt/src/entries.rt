@@ -1,8 +1,8 @@
 ghost use Rattle.std.specs.Prelude.{◌≡◌, ◌<◌, ◌≤◌, ◌||◌, Some, true, not, length, slice_get};
 ghost use Rattle.std.specs.List.{list_any, list_all};
 ghost use Rattle.p9_manual.specs.Alt.{is_closed_list};
-ghost use Rattle.p9_manual.specs.Commit.{kept_bytes, sent_bytes, sender_bytes};
-ghost use Rattle.p9_manual.specs.Offers.{is_nop, sends_to, sends_on, first_slot};
+ghost use Rattle.p9_manual.specs.Told.{kept_bytes, sent_bytes, sender_bytes};
+ghost use Rattle.p9_manual.specs.Entries.{is_nop, sends_to, sends_on, first_slot};
 ghost use Rattle.p9_manual.specs.Ready.{fits, fits_entry, goes_with, is_too_long};
 ghost use Rattle.p9_alt.specs.Exchange.{zeros_in};
 ghost use Rattle.p9_alt.specs.Sides.{entry_test};
@@ -96,9 +96,9 @@ pub(crate) fn fits(chans: &Chans, entries: &[AltEntry]) -> bool
 }
 
 /// Takes an entry out.
-pub(crate) fn entry_out(mut entries: Seq<AltEntry>, i: usize) -> AltEntry
-    requires { i < length entries }
-    ensures { slice_get entries i ≡ Some result }
+pub(crate) fn entry_out(entries: &mut Seq<AltEntry>, i: usize) -> AltEntry
+    requires { i < length entries.old }
+    ensures { slice_get entries.old i ≡ Some result }
 {
     let none = AltEntry {
         chan: 0,
@@ -145,13 +145,13 @@ pub(crate) fn value_of(slot: Slot, elsize: u32, zeros: &mut Zeros) -> Msg
 }
 
 /// What a thread that waited sends on channel c, by its first entry that does.
-pub(crate) fn value_out(w: Party, c: u32, elsize: u32, zeros: &mut Zeros) -> Msg
-    requires sends { sends_on c w ≡ true }
-    requires zeros { zeros_in elsize (first_slot (sends_to c) w.entries) ≤ zeros.old }
-    ensures { result ≡ sender_bytes c elsize w }
+pub(crate) fn value_out(w: &mut Party, c: u32, elsize: u32, zeros: &mut Zeros) -> Msg
+    requires sends { sends_on c w.old ≡ true }
+    requires zeros { zeros_in elsize (first_slot (sends_to c) w.old.entries) ≤ zeros.old }
+    ensures { result ≡ sender_bytes c elsize w.old }
 {
     let i = Side::Sends.first_number(c, w.entries.as_slice());
-    let entry = entry_out(w.entries, i);
+    let entry = entry_out(&mut w.entries, i);
     value_of(entry.slot, elsize, zeros)
 }
 

@@ -5,6 +5,7 @@ mod alts;
 mod answers;
 mod commit;
 mod entries;
+mod lists;
 mod offer;
 mod queue;
 mod ready;

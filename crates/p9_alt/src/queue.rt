@@ -1,18 +1,37 @@
-ghost use Rattle.std.specs.Prelude.{◌≡◌, ◌≤◌, length, slice_get, IfSome};
+ghost use Rattle.std.specs.Prelude.{◌≡◌, ◌≤◌, length, slice_get, count_by, IfSome};
 ghost use Rattle.std.specs.List.{list_any, find};
 ghost use Rattle.std.specs.Option.{option_copied};
+ghost use Rattle.p9_alt.specs.Exchange.{others};
 ghost use Rattle.p9_alt.specs.Kept.{IsQueue};
 ghost use Rattle.p9_alt.specs.Passing.{without, IsLess};
 ghost use Rattle.p9_alt.specs.Sides.{party_test};
 
 use crate::side::Side;
 use p9_manual::Party;
+use p9_word::Tid;
 
 /// Whether a thread that waits does this on channel c.
 pub(crate) fn is_awaited(waits: &[Party], side: Side, c: u32) -> bool
     ensures { result ≡ list_any (party_test side c) waits.now }
 {
     waits.iter().any(|w| side.is_in(c, w))
+}
+
+/// Whether a thread that waits does this on channel c, other than this one.
+pub(crate) fn is_awaited_by_other(waits: &[Party], tid: Tid, side: Side, c: u32) -> bool
+    ensures { result ≡ list_any (party_test side c) (others tid waits.now) }
+{
+    waits
+        .iter()
+        .filter(|w| w.tid != tid)
+        .any(|w| side.is_in(c, w))
+}
+
+/// How many threads that wait do this on channel c.
+pub(crate) fn awaiting(waits: &[Party], side: Side, c: u32) -> usize
+    ensures { result ≡ count_by (party_test side c) waits.now }
+{
+    waits.iter().filter(|w| side.is_in(c, w)).count()
 }
 
 /// The thread that waits longest of those that do this on channel c.

@@ -1,70 +1,115 @@
-ghost use Rattle.std.specs.Prelude.{◌≡◌, ◌<◌, ◌≤◌, ◌+◌, All, true, length, slice_index, slice_get, IfSome};
+ghost use Rattle.std.specs.Prelude.{◌≡◌, ◌==◌, ◌<◌, ◌≤◌, All, true, length, slice_index, slice_get, IfSome};
 ghost use Rattle.std.specs.List.{find};
 ghost use Rattle.p9_word.specs.declared.alt.AltOp.TheVariants.{Snd, Rcv};
-ghost use Rattle.p9_manual.specs.Offers.{sends_on};
-ghost use Rattle.p9_manual.specs.Ready.{can_go_on, is_ready, ready_entries, fits};
+ghost use Rattle.p9_manual.specs.Entries.{sends_on};
+ghost use Rattle.p9_manual.specs.Ready.{can_go_on, is_ready, ready_entries};
+ghost use Rattle.p9_manual.specs.Standing.{times};
 ghost use Rattle.p9_chan.specs.Channels.{IsMade, chan_of};
-ghost use Rattle.p9_alt.specs.Exchange.{zeros_of, zeros_for};
+ghost use Rattle.p9_alt.specs.Exchange.{others, zeros_of, zeros_for};
 ghost use Rattle.p9_alt.specs.Passing.{IsUsable};
 
 use crate::entries::{zeros_at, zeros_in};
-use crate::queue::{first, is_awaited};
+use crate::queue::{first, is_awaited_by_other};
 use crate::side::Side;
 use p9_chan::Chans;
 use p9_manual::Party;
-use p9_word::{AltEntry, AltOp};
+use p9_word::{AltEntry, AltOp, Tid};
 
-/// Whether a send on channel c can go on.
-fn can_send(chans: &Chans, waits: &[Party], c: u32) -> bool
+/// Whether a send of a thread on channel c can go on.
+fn can_send(chans: &Chans, waits: &[Party], tid: Tid, c: u32) -> bool
     requires { IsMade c chans.now }
-    ensures { result ≡ can_go_on Snd c (chan_of c chans.now) waits.now }
+    ensures { result ≡ can_go_on Snd c (chan_of c chans.now) (others tid waits.now) }
 {
     chans.closing(c).is_some()
-        || (!chans.is_full(c) || (chans.cap(c) == 0 && is_awaited(waits, Side::Receives, c)))
+        || (!chans.is_full(c)
+            || (chans.cap(c) == 0 && is_awaited_by_other(waits, tid, Side::Receives, c)))
 }
 
-/// Whether a receive can.
-fn can_receive(chans: &Chans, waits: &[Party], c: u32) -> bool
+/// Whether a receive of a thread can.
+fn can_receive(chans: &Chans, waits: &[Party], tid: Tid, c: u32) -> bool
     requires { IsMade c chans.now }
-    ensures { result ≡ can_go_on Rcv c (chan_of c chans.now) waits.now }
+    ensures { result ≡ can_go_on Rcv c (chan_of c chans.now) (others tid waits.now) }
 {
     !chans.is_empty(c)
-        || (chans.closing(c).is_some() || (chans.cap(c) == 0 && is_awaited(waits, Side::Sends, c)))
+        || (chans.closing(c).is_some()
+            || (chans.cap(c) == 0 && is_awaited_by_other(waits, tid, Side::Sends, c)))
 }
 
-/// Whether an entry is ready.
-fn is_ready(chans: &Chans, waits: &[Party], e: &AltEntry) -> bool
+/// Whether an entry of a thread is ready.
+fn is_ready(chans: &Chans, waits: &[Party], tid: Tid, e: &AltEntry) -> bool
     requires { IsUsable chans.now e.now }
-    ensures { result ≡ is_ready chans.now.chans waits.now e.now }
+    ensures { result ≡ is_ready chans.now.chans (others tid waits.now) e.now }
 {
     if e.err {
         return false;
     }
     match e.op {
-        AltOp::Snd => can_send(chans, waits, e.chan),
-        AltOp::Rcv => can_receive(chans, waits, e.chan),
+        AltOp::Snd => can_send(chans, waits, tid, e.chan),
+        AltOp::Rcv => can_receive(chans, waits, tid, e.chan),
         AltOp::Nop => false,
     }
 }
 
-/// How many entries are ready.
-pub(crate) fn ready_count(chans: &Chans, waits: &[Party], entries: &[AltEntry]) -> u32
+/// How many entries of a thread are ready. It is never its own partner.
+pub(crate) fn ready_count(chans: &Chans, waits: &[Party], tid: Tid, entries: &[AltEntry]) -> u32
     requires few { length entries.now ≤ 64 }
     requires usable { All (IsUsable chans.now) entries.now }
-    ensures { result ≡ length (ready_entries chans.now.chans waits.now entries.now) }
+    ensures { result ≡ length (ready_entries chans.now.chans (others tid waits.now) entries.now) }
 {
     let mut count = 0;
     for e in entries {
-        if is_ready(chans, waits, e) {
+        if is_ready(chans, waits, tid, e) {
             count += 1;
         }
     }
     count
 }
 
-/// The number of a ready entry, where so many are ready before it.
-pub(crate) fn ready_at(chans: &Chans, waits: &[Party], entries: &[AltEntry], n: u32) -> usize
+/// The same for a thread that doesn't wait.
+pub(crate) fn idle_count(chans: &Chans, waits: &[Party], tid: Tid, entries: &[AltEntry]) -> u32
+    requires few { length entries.now ≤ 64 }
     requires usable { All (IsUsable chans.now) entries.now }
+    requires idle { times (λ w. w.tid == tid) waits.now ≡ 0 }
+    ensures { result ≡ length (ready_entries chans.now.chans waits.now entries.now) }
+{
+    ready_count(chans, waits, tid, entries)
+}
+
+/// Whether an entry is ready, of a thread that doesn't wait.
+fn is_idle_ready(chans: &Chans, waits: &[Party], tid: Tid, e: &AltEntry) -> bool
+    requires usable { IsUsable chans.now e.now }
+    requires idle { times (λ w. w.tid == tid) waits.now ≡ 0 }
+    ensures { result ≡ is_ready chans.now.chans waits.now e.now }
+{
+    is_ready(chans, waits, tid, e)
+}
+
+/// The number of a ready entry of a thread that doesn't wait, where so many are ready before it. Of one entry alone
+/// nothing is looked at.
+pub(crate) fn ready_number(
+    chans: &Chans,
+    waits: &[Party],
+    tid: Tid,
+    entries: &[AltEntry],
+    n: u32,
+) -> usize
+    requires usable { All (IsUsable chans.now) entries.now }
+    requires idle { times (λ w. w.tid == tid) waits.now ≡ 0 }
+    requires within { n < length (ready_entries chans.now.chans waits.now entries.now) }
+    ensures number { result ≡ slice_index (ready_entries chans.now.chans waits.now entries.now) n }
+    ensures within { result < length entries.now }
+    ensures ready { IfSome (slice_get entries.now result) (λ e. is_ready chans.now.chans waits.now e ≡ true) }
+{
+    if entries.len() == 1 {
+        return 0;
+    }
+    ready_at(chans, waits, tid, entries, n)
+}
+
+/// The number of a ready entry of a thread that doesn't wait, where so many are ready before it.
+fn ready_at(chans: &Chans, waits: &[Party], tid: Tid, entries: &[AltEntry], n: u32) -> usize
+    requires usable { All (IsUsable chans.now) entries.now }
+    requires idle { times (λ w. w.tid == tid) waits.now ≡ 0 }
     requires within { n < length (ready_entries chans.now.chans waits.now entries.now) }
     ensures number { result ≡ slice_index (ready_entries chans.now.chans waits.now entries.now) n }
     ensures within { result < length entries.now }
@@ -72,7 +117,7 @@ pub(crate) fn ready_at(chans: &Chans, waits: &[Party], entries: &[AltEntry], n: 
 {
     let mut left = n;
     for i in 0..entries.len() {
-        if is_ready(chans, waits, &entries[i]) {
+        if is_idle_ready(chans, waits, tid, &entries[i]) {
             if left == 0 {
                 return i;
             }
@@ -93,7 +138,7 @@ fn sender_zeros(waits: &[Party], c: u32, elsize: u32) -> u32
 }
 
 /// How many zeros an entry may need to go on.
-fn zeros_for(chans: &Chans, waits: &[Party], e: &AltEntry) -> u32
+pub(crate) fn zeros_for(chans: &Chans, waits: &[Party], e: &AltEntry) -> u32
     ensures { result ≡ zeros_for chans.now.chans waits.now e.now }
 {
     if !chans.is_live(e.chan) {

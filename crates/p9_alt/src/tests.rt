@@ -293,7 +293,7 @@ fn all_wait(alloc: Global, b: &mut Bench) -> Result<bool, NoMemory> {
 
 /// Closes channel 1, and puts who is woken into `woken`.
 fn close(alts: &mut Alts, woken: &mut Room<Wake>) -> Result<bool, NoMemory> {
-    woken.reserve(alts.len())?;
+    woken.reserve(alts.awaiting(1))?;
     Ok(alts.chans().is_live(1) && alts.close(1, woken))
 }
 

@@ -66,7 +66,8 @@ impl Chans {
     /// were made, and then nothing changes. chancreate in thread(2).
     pub fn make(&mut self, cap: u32, elsize: u32) -> Option<u32>
         requires { self.old.room ≡ Some cap }
-        ensures made { MatchOption result ((1024 ≤ length self.old.chans) × (self.new ≡ self.old)) (λ id. (length self.old.chans + 1 ≤ 1024) × (id ≡ length self.old.chans + 1) × (self.new ≡ with_new cap elsize self.old)) }
+        ensures made { MatchOption result ((1024 ≤ length self.old.chans) × (self.new ≡ self.old))
+            (λ id. (length self.old.chans + 1 ≤ 1024) × (id ≡ length self.old.chans + 1) × (self.new ≡ with_new cap elsize self.old)) }
     {
         if LIMIT <= self.slots.len() {
             return None;
@@ -96,7 +97,9 @@ impl Chans {
     /// nothing changes. recv in thread(2).
     pub fn take(&mut self, c: u32) -> Option<Element>
         requires { IsMade c self.old }
-        ensures taken { MatchOption result ((elements_in (chan_of c self.old) ≡ []) × (self.new ≡ self.old)) (λ x. (elements_in (chan_of c self.old) ≡ x ∷ elements_in (chan_of c self.new)) × (self.new ≡ refilled c (elements_in (chan_of c self.new)) self.old)) }
+        ensures taken { MatchOption result ((elements_in (chan_of c self.old) ≡ []) × (self.new ≡ self.old))
+            (λ x. (elements_in (chan_of c self.old) ≡ x ∷ elements_in (chan_of c self.new))
+            × (self.new ≡ refilled c (elements_in (chan_of c self.new)) self.old)) }
         ensures within { length (elements_in (chan_of c self.old)) ≤ cap_in (chan_of c self.old) }
     {
         let slot = &mut self.slots[c as usize - 1];

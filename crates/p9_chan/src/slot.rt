@@ -1,4 +1,4 @@
-ghost use Rattle.std.specs.Prelude.{◌≡◌, ◌≤◌, ◌∷◌, ◌++◌, ◌==◌, [], Some, None, if◌then◌else◌, not, false, true, length, MatchOption, IfOk};
+ghost use Rattle.std.specs.Prelude.{◌≡◌, ◌≤◌, ◌∷◌, ◌++◌, ◌==◌, [], Some, None, if◌then◌else◌, not, true, length, MatchOption, IfOk};
 ghost use Rattle.p9_manual.specs.Chans.{empty_channel};
 ghost use Rattle.p9_manual.specs.Close.{closed_chan, freed_chan};
 ghost use Rattle.p9_manual.specs.Commit.{holding};
@@ -98,7 +98,8 @@ impl Slot {
 
     /// Takes the element at the front. `None` exactly where it has none, and then nothing changes.
     pub fn take(&mut self) -> Option<Element>
-        ensures taken { MatchOption result ((self.old.elements ≡ []) × (self.new ≡ self.old)) (λ x. (self.old.elements ≡ x ∷ self.new.elements) × (self.new ≡ holding self.new.elements self.old)) }
+        ensures taken { MatchOption result ((self.old.elements ≡ []) × (self.new ≡ self.old))
+            (λ x. (self.old.elements ≡ x ∷ self.new.elements) × (self.new ≡ holding self.new.elements self.old)) }
         ensures within { length self.old.elements ≤ self.old.cap }
     {
         match &mut self.ring {

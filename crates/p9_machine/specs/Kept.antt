@@ -1,5 +1,5 @@
 -- What the fields of a machine keep.
-use Rattle.std.specs.Prelude.{◌≡◌, ◌≤◌, length, Option, Some, None}
+use Rattle.std.specs.Prelude.{◌≡◌, ◌≤◌, ◌+◌, length, Option, Some, None}
 use Rattle.p9_word.specs.Filled.{Filled}
 use Rattle.p9_word.specs.Setup.{IsValid}
 use Rattle.p9_word.specs.declared.trail.Entry.{Entry}
@@ -10,13 +10,12 @@ use Rattle.p9_machine.specs.declared.board.Board.{Board}
 use Rattle.p9_machine.specs.declared.reserve.Reserved.{Reserved}
 use Rattle.p9_machine.specs.declared.machine.Machine.TheInside.{Inside}
 use Rattle.p9_machine.specs.Board.{Stands, calls_of}
-use Rattle.p9_machine.specs.Desks.{rooms_of}
-use Rattle.p9_machine.specs.Ready.{HasMemory, HasEntries}
+use Rattle.p9_machine.specs.Ready.{IsReady, seat_of, event_of}
 use Rattle.p9_machine.specs.Shown.{Shown}
 
 abbrev pub reserved_of : Option Reserved → Option (Seat × Event)
 reserved_of None = None
-reserved_of (Some r) = Some (r.seat, r.event)
+reserved_of (Some r) = Some (seat_of r.needs, event_of r.needs)
 
 -- what callers see
 abbrev pub shown : Inside → Shown
@@ -25,22 +24,22 @@ shown m =
       setup = m.board.setup;
       entries = m.trail.entries.items;
       reserved = reserved_of m.reserved;
-      rooms = rooms_of m.board.desks.items;
+      rooms = m.board.io.rooms;
     }
 
--- there is memory for what was reserved, if anything was
-abbrev pub HasMemoryIfAny : Board → Filled Entry → Option Reserved → Type 0
-HasMemoryIfAny board entries None = Unit {0}
-HasMemoryIfAny board entries (Some r) = HasMemory board r × HasEntries board entries
+-- there is memory for what was reserved, if anything was: its own, that of its entry, and that of the entry for what comes
+-- of each call that is begun after it
+abbrev pub IsReadyIfAny : Board → Filled Entry → Option Reserved → Type 0
+IsReadyIfAny board entries None = Unit {0}
+IsReadyIfAny board entries (Some r) = IsReady board r × (calls_of board + 2 ≤ entries.spare)
 
 -- the board is where the history leads, and there is memory for what comes
 pub record IsKept (m : Inside) : Type 0 where
   pub valid : IsValid m.board.setup
   pub board : Stands m.board (state_after m.board.setup m.trail.entries.items)
-  pub places : length m.board.sched.lines ≡ m.board.setup.places
   pub legal : IsLegal m.board.setup m.trail.entries.items
   pub counted : m.board.entries ≡ length m.trail.entries.items
   pub procs : m.trail.procs ≡ m.board.setup.procs
   pub start : m.trail.start ≡ m.board.setup.start
   pub spare : calls_of m.board ≤ m.trail.entries.spare
-  pub memory : HasMemoryIfAny m.board m.trail.entries m.reserved
+  pub memory : IsReadyIfAny m.board m.trail.entries m.reserved

@@ -1,11 +1,8 @@
+pub mod Begin
 pub mod Board
-pub mod Calls
 pub mod Copies
-pub mod Desks
 pub mod Kept
 pub mod Plain
 pub mod Ready
 pub mod Shown
 pub mod Turns
-pub mod Waits
-pub mod Wakes

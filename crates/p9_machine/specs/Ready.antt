@@ -1,93 +1,90 @@
--- The memory that one event needs.
-use Rattle.std.specs.Prelude.{ℕ, ◌≡◌, ◌+◌, ◌≤◌, false, List, [], Option, Some, None, length}
-use Rattle.p9_word.specs.Filled.{Filled}
-use Rattle.p9_word.specs.declared.trail.Entry.{Entry}
+-- The event that there is memory for, and that memory.
+use Rattle.std.specs.Prelude.{ℕ, ◌≡◌, ◌-◌, List, [], slice_get}
 use Rattle.p9_word.specs.declared.trail.Seat.{Seat}
 use Rattle.p9_word.specs.declared.trail.Seat.TheVariants.{Proc, Io as IoSeat}
 use Rattle.p9_word.specs.declared.trail.Event.{Event}
-use Rattle.p9_word.specs.declared.trail.Event.TheVariants.{Call, Next, IoTake, IoDid}
+use Rattle.p9_word.specs.declared.trail.Event.TheVariants.{Call, Next as NextEvent, IoTake, IoDid}
 use Rattle.p9_word.specs.declared.request.Request.{Request}
 use Rattle.p9_word.specs.declared.request.Request.TheVariants.{Thread as ThreadRequest, Chan as ChanRequest, Io as IoRequest}
-use Rattle.p9_word.specs.declared.request.ChanReq.{ChanReq}
-use Rattle.p9_word.specs.declared.request.ChanReq.TheVariants as ask
-use Rattle.p9_manual.specs.Offers.{Alternation, alternation}
-use Rattle.p9_manual.specs.Chans.{is_no_size}
-use Rattle.p9_word.specs.declared.alt.AltEntry.{AltEntry}
-use Rattle.p9_alt.specs.declared.offer.Wake.{Wake}
-use Rattle.p9_alt.specs.Exchange.{Exchange, HasMemory as HasExchangeMemory}
-use Rattle.p9_machine.specs.declared.board.Board.{Board}
 use Rattle.p9_manual.specs.declared.state.Ioproc.{Ioproc}
 use Rattle.p9_manual.specs.State.{by_id}
-use Rattle.p9_machine.specs.declared.spares.Spares.{Spares}
+use Rattle.p9_sched.specs.Schedule.{Schedule}
+use Rattle.p9_sched.specs.Turns.{answer_next}
+use Rattle.p9_thread_calls.specs.Memory.{HasMemory as HasThreadMemory, message_of}
+use Rattle.p9_chan_calls.specs.Spares.{IsSpare as IsChanSpare}
+use Rattle.p9_io_calls.specs.Needs.{IsSpare as IsIoSpare}
+use Rattle.p9_machine.specs.declared.board.Board.{Board}
+use Rattle.p9_machine.specs.declared.reserve.Asked.{Asked}
+use Rattle.p9_machine.specs.declared.reserve.Asked.TheVariants.{Thread, Chan, Io}
+use Rattle.p9_machine.specs.declared.reserve.Needs.{Needs}
+use Rattle.p9_machine.specs.declared.reserve.Needs.TheVariants.{Call as CallNeeds, Next, Take, Other}
 use Rattle.p9_machine.specs.declared.reserve.Reserved.{Reserved}
-use Rattle.p9_machine.specs.Board.{calls_of, HasRoom}
-use Rattle.p9_machine.specs.Copies.{IsForEvent, IsTold}
-use Rattle.p9_machine.specs.Calls.{taken_room}
-use Rattle.p9_machine.specs.Desks.{ioprocs_of}
+use Rattle.p9_machine.specs.Copies.{IsOfNext, IsOfPosted}
 
--- the room that the buffers of an event need: that of the call that an ioproc may take
-abbrev pub room_needed : Seat → Event → List Ioproc → ℕ
-room_needed (IoSeat k) IoTake ios = taken_room (by_id ios k)
-room_needed (IoSeat k) (IoDid effect) ios = 0
-room_needed (IoSeat k) (Call t request) ios = 0
-room_needed (IoSeat k) Next ios = 0
-room_needed (Proc p) (Call t request) ios = 0
-room_needed (Proc p) Next ios = 0
-room_needed (Proc p) IoTake ios = 0
-room_needed (Proc p) (IoDid effect) ios = 0
+-- which request it is
+abbrev pub request_of : Asked → Request
+request_of (Thread request spare) = ThreadRequest request
+request_of (Chan request spare) = ChanRequest request
+request_of (Io request) = IoRequest request
 
--- two empty buffers with that room
-pub record HasBuffersFor (seat : Seat) (event : Event) (ios : List Ioproc) (spares : Spares) : Type 0 where
-  pub empty : spares.buffer.items ≡ []
-  pub second_empty : spares.second.items ≡ []
-  pub buffer : room_needed seat event ios ≤ spares.buffer.spare
-  pub second : room_needed seat event ios ≤ spares.second.spare
+-- who makes the event
+abbrev pub seat_of : Needs → Seat
+seat_of (CallNeeds p t asked) = Proc p
+seat_of (Next p) = Proc p
+seat_of (Take k spare) = IoSeat k
+seat_of (Other seat event) = seat
 
--- these are the entries of the alt, if there is one
-abbrev pub AreEntriesOf : Option Alternation → List AltEntry → Type 0
-AreEntriesOf None entries = Unit {0}
-AreEntriesOf (Some a) entries = entries ≡ a.entries
+-- which event it is
+abbrev pub event_of : Needs → Event
+event_of (CallNeeds p t asked) = Call t (request_of asked)
+event_of (Next p) = NextEvent
+event_of (Take k spare) = IoTake
+event_of (Other seat event) = event
 
--- the entries of the alt, if there is one, and memory for an offer of them
-abbrev pub HasAltMemory : Option Alternation → List AltEntry → Exchange → Type 0
-HasAltMemory None entries alts = Unit {0}
-HasAltMemory (Some a) entries alts = (entries ≡ a.entries) × HasExchangeMemory a.entries alts
+-- an event that comes from where none of its kind can, or tells what a call came to
+abbrev pub IsStray : Seat → Event → Type 0
+IsStray (Proc p) (Call t request) = ⊥
+IsStray (Proc p) NextEvent = ⊥
+IsStray (Proc p) IoTake = Unit {0}
+IsStray (Proc p) (IoDid effect) = Unit {0}
+IsStray (IoSeat k) (Call t request) = Unit {0}
+IsStray (IoSeat k) NextEvent = Unit {0}
+IsStray (IoSeat k) IoTake = ⊥
+IsStray (IoSeat k) (IoDid effect) = Unit {0}
 
--- the memory of the other requests on channels: of a channel of that capacity, if its sizes are in range, or of the
--- threads that are woken where one is closed
-abbrev pub HasChannelMemory : ChanReq → Filled Wake → Exchange → Type 0
-HasChannelMemory (ask.ChanCreate cap elsize) wakes alts = is_no_size cap elsize ≡ false → alts.channels.room ≡ Some cap
-HasChannelMemory (ask.ChanClose c) wakes alts = (wakes.items ≡ []) × (length alts.waits ≤ wakes.spare)
-HasChannelMemory request wakes alts = Unit {0}
+-- there is memory on the board for a request of thread t
+abbrev pub HasRequestMemory : Board → ℕ → Asked → Type 0
+HasRequestMemory board t (Thread request spare) = HasThreadMemory request t board.sched spare
+HasRequestMemory board t (Chan request spare) = IsChanSpare request spare board.alts
+HasRequestMemory board t (Io request) = Unit {0}
 
--- there is memory for a request on channels
-pub record HasChanMemoryIn (request : ChanReq) (entries : List AltEntry) (wakes : Filled Wake) (alts : Exchange) : Type 0 where
-  pub alt : HasAltMemory (alternation request) entries alts
-  pub channel : HasChannelMemory request wakes alts
+-- and for an event
+abbrev pub IsReadyFor : Board → Needs → Type 0
+IsReadyFor board (CallNeeds p t asked) = HasRequestMemory board t asked
+IsReadyFor board (Next p) = Unit {0}
+IsReadyFor board (Take k spare) = IsIoSpare (by_id board.io.ioprocs k) (slice_get board.io.prepared (k - 1)) spare
+IsReadyFor board (Other seat event) = IsStray seat event
 
-abbrev pub HasChanMemory : ChanReq → Spares → Board → Type 0
-HasChanMemory request spares board = HasChanMemoryIn request spares.entries spares.wakes board.alts
+-- the message that a request is told at once, if it is told one
+abbrev pub message_for : Asked → List ℕ
+message_for (Thread request spare) = message_of spare
+message_for (Chan request spare) = []
+message_for (Io request) = []
 
--- there is memory for the request of an event, if it is on channels
-abbrev pub HasRequestMemory : Request → List AltEntry → Filled Wake → Exchange → Type 0
-HasRequestMemory (ChanRequest r) entries wakes alts = HasChanMemoryIn r entries wakes alts
-HasRequestMemory (ThreadRequest r) entries wakes alts = Unit {0}
-HasRequestMemory (IoRequest r) entries wakes alts = Unit {0}
+-- m is the message that the entry's copy of the reply needs
+abbrev pub IsTold : Needs → Schedule → List Ioproc → List ℕ → Type 0
+IsTold (CallNeeds p t asked) sched ios m = m ≡ message_for asked
+IsTold (Next p) sched ios m = IsOfNext (answer_next p sched) m
+IsTold (Take k spare) sched ios m = IsOfPosted (by_id ios k) m
+IsTold (Other seat event) sched ios m = Unit {0}
 
-abbrev pub HasMemoryIn : Event → List AltEntry → Filled Wake → Exchange → Type 0
-HasMemoryIn (Call t r) entries wakes alts = HasRequestMemory r entries wakes alts
-HasMemoryIn Next entries wakes alts = Unit {0}
-HasMemoryIn IoTake entries wakes alts = Unit {0}
-HasMemoryIn (IoDid effect) entries wakes alts = Unit {0}
+-- there is memory for the event, and for the entry's copy of the reply
+pub record IsReady (board : Board) (r : Reserved) : Type 0 where
+  pub needs : IsReadyFor board r.needs
+  pub told : IsTold r.needs board.sched board.io.ioprocs r.told
 
--- there is memory on the board for what was reserved
-pub record HasMemory (board : Board) (r : Reserved) : Type 0 where
-  pub room : HasRoom board
-  pub buffers : HasBuffersFor r.seat r.event (ioprocs_of board.desks.items) r.spares
-  pub extra : IsForEvent r.seat r.event board.sched.threads (ioprocs_of board.desks.items) r.spares.extra
-  pub told : IsTold r.seat r.event board.sched (ioprocs_of board.desks.items) r.told
-  pub request : HasMemoryIn r.event r.spares.entries r.spares.wakes board.alts
-
--- an entry for the event, and one for what comes of each begun call, that of the event too
-pub record HasEntries (board : Board) (entries : Filled Entry) : Type 0 where
-  pub spare : calls_of board + 2 ≤ entries.spare
+-- it is memory for this event of this seat
+pub record IsFor (board : Board) (seat : Seat) (event : Event) (r : Reserved) : Type 0 where
+  pub seat_is : seat_of r.needs ≡ seat
+  pub event_is : event_of r.needs ≡ event
+  pub ready : IsReady board r

@@ -12,7 +12,7 @@ use Rattle.p9_word.specs.declared.io_call.IoCall.{IoCall}
 use Rattle.p9_manual.specs.State.{State, by_id, changed}
 use Rattle.p9_manual.specs.Step.{step}
 use Rattle.p9_manual.specs.History.{state_after, with_entry}
-use Rattle.p9_machine.specs.Calls.{begun_call}
+use Rattle.p9_io.specs.Calls.{begun_call}
 
 -- a machine by its setup and its history. reserved is the event that there is memory for; rooms says for each ioproc,
 -- from 1 on, whether the buffer of its begun call is still here

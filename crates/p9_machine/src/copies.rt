@@ -1,6 +1,6 @@
 ghost use Rattle.std.specs.Prelude.{◌≡◌};
 ghost use Rattle.p9_manual.specs.Step.{makes_entry};
-ghost use Rattle.p9_machine.specs.Copies.{IsOfCall, IsOfAnswer, IsOfIoAnswer, IsOfReply};
+ghost use Rattle.p9_sched.specs.Messages.{IsOfCall, IsOfAnswer, IsOfIoAnswer, IsOfReply};
 
 use p9_word::{Answer, IoAnswer, IoCall, Msg, Reply};
 

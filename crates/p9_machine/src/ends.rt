@@ -1,28 +1,33 @@
-ghost use Rattle.p9_manual.specs.Ends.{ended, all_ended};
 ghost use Rattle.p9_word.specs.declared.trail.Reply.TheVariants.{Ended};
-ghost use Rattle.p9_machine.specs.Board.{Rest, state_of, IsUsable, IsRunning, Gives};
+ghost use Rattle.p9_manual.specs.Ends.{ended, all_ended};
+ghost use Rattle.p9_manual.specs.State.{replied};
+ghost use Rattle.p9_sched.specs.Messages.{IsBare};
+ghost use Rattle.p9_machine.specs.Board.{IsRunning, GivesAll, Stays};
 
 use crate::board::Board;
-use crate::desks::{abandon_all, let_all_go};
 use p9_word::{Reply, Tid};
 
-/// Ends the caller. It runs, so it stands neither in the line nor in the waits.
+/// Ends the caller in each part. It runs, so no alt keeps it.
 pub(crate) fn exit_thread(board: &mut Board, t: Tid) -> Reply
     requires { IsRunning t board.old.sched }
-    ensures { (rest : Rest) → IsUsable board.old rest → Gives board.old rest (record { reply = Ended; state = ended t (state_of board.old rest) }) result board.new }
+    ensures gives { GivesAll (λ s. replied Ended (ended t s)) board.old result board.new }
+    ensures stays { Stays board.old board.new }
+    ensures bare { IsBare result }
 {
     board.sched.end(t);
-    let_all_go(&mut board.desks, t);
+    board.io.let_go(t);
     Reply::Ended
 }
 
-/// Ends all threads, and the run.
+/// Ends all threads in each part, and the run.
 pub(crate) fn exit_all(board: &mut Board) -> Reply
-    ensures { (rest : Rest) → IsUsable board.old rest → Gives board.old rest (record { reply = Ended; state = all_ended (state_of board.old rest) }) result board.new }
+    ensures gives { GivesAll (λ s. replied Ended (all_ended s)) board.old result board.new }
+    ensures stays { Stays board.old board.new }
+    ensures bare { IsBare result }
 {
     board.sched.end_all();
     board.alts.withdraw_all();
-    abandon_all(&mut board.desks);
+    board.io.let_all_go();
     board.over = true;
     Reply::Ended
 }

@@ -2,28 +2,20 @@
 //!
 //! [`Machine::reserve`] takes the memory that an event needs, and [`Machine::apply`] does the event: it
 //! gives the reply and makes the entry. What an ioproc tells needs no reserve of its own.
+//!
+//! Each group of requests is served by a crate of its own over the parts that it touches. This crate keeps the parts
+//! together, and does what touches all of them: how a run begins, which thread runs next, and how threads end.
 #![tactic(auto)]
 
-mod alternation;
 mod begin;
 mod board;
-mod chans;
 mod copies;
-mod create;
-mod desk;
-mod desks;
 mod ends;
 mod entries;
-mod ioprocs;
 mod machine;
+mod messages;
 mod next;
 mod reserve;
-mod spares;
 mod step;
-mod threads;
-mod wakes;
 
 pub use machine::Machine;
-
-#[cfg(test)]
-mod tests;

@@ -7,10 +7,9 @@ ghost use Rattle.p9_machine.specs.Plain.{IsPlain};
 
 use crate::begin::begin_board;
 use crate::board::Board;
-use crate::desks::{begun_count, lend};
 use crate::entries::{enter, record};
-use crate::reserve::{Reserved, reserved_for};
-use p9_manual::laws::soundness::states_are_sound;
+use crate::reserve::{Reserved, keep, let_go, reserved_for};
+use p9_laws::soundness::states_are_sound;
 use p9_word::{Effect, Event, NoMemory, Reply, Room, Seat, Setup, Trail};
 use std::alloc::Global;
 use std::marker::Model;
@@ -39,14 +38,15 @@ impl Model for Machine {
 }
 
 impl Machine {
-    ghost use Rattle.p9_machine.specs.Shown.{reply_to, after_event, call_begun, IsReserved};
+    ghost use Rattle.p9_machine.specs.Shown.{reply_to, after_event, call_begun, is_told, IsReserved};
     ghost use Rattle.p9_manual.specs.History.{IsLegal, state_after};
 
     /// A machine that has done nothing yet.
     pub fn new(alloc: Global, setup: &Setup) -> Result<Machine, NoMemory>
         requires valid { IsValid setup.now }
         requires plain { IsPlain setup.now }
-        ensures { IfOk result (λ m. m ≡ record { setup = setup.now; entries = []; reserved = None; rooms = replicate setup.now.files false }) }
+        ensures { IfOk result
+            (λ m. m ≡ record { setup = setup.now; entries = []; reserved = None; rooms = replicate setup.now.files false }) }
     {
         let board = begin_board(alloc, setup)?;
         let trail = Trail {
@@ -74,25 +74,28 @@ impl Machine {
         ensures files { result ≡ self.now.setup.files }
         ensures rooms { length self.now.rooms ≡ length (state_after self.now.setup self.now.entries).ioprocs }
     {
+        let _places = self.board.io.files();
         self.board.setup.files
     }
 
     /// Takes all memory that an event needs, and nothing else. For an `IoTake` that is also the memory of
     /// what the ioproc tells later.
+    #[inline(always)]
     pub fn reserve(&mut self, seat: Seat, event: &Event) -> Result<(), NoMemory>
         ensures ok { OnOk result (self.new ≡ record self.old { reserved = Some (seat, event.now) }) }
         ensures err { OnErr result (self.new ≡ record self.old { reserved = None }) }
     {
-        self.reserved = None;
-        let begun = begun_count(&self.board.desks);
+        let_go(&mut self.reserved);
+        let begun = self.board.io.begun_calls();
         self.trail.entries.reserve(begun + 2)?;
         let reserved = reserved_for(&mut self.board, seat, event, self.alloc)?;
-        self.reserved = Some(reserved);
+        keep(&mut self.reserved, reserved);
         Ok(())
     }
 
     /// One event. There is memory for it, by the reserve before, or for what an ioproc tells since its
     /// call began.
+    #[inline(always)]
     pub fn apply(&mut self, seat: Seat, event: Event) -> Reply
         requires { IsReserved seat event self.old.reserved }
         ensures reply { result ≡ reply_to self.old seat event }
@@ -100,14 +103,14 @@ impl Machine {
     {
         match event {
             Event::IoDid(effect) => self.tell(seat, effect),
-            Event::Call(t, request) => self.enter(seat, Event::Call(t, request)),
-            Event::Next => self.enter(seat, Event::Next),
-            Event::IoTake => self.enter(seat, Event::IoTake),
+            event => self.enter(seat, event),
         }
     }
 
+    #[inline(always)]
     fn enter(&mut self, seat: Seat, event: Event) -> Reply
-        requires { self.old.reserved ≡ Some (seat, event) }
+        requires reserved { self.old.reserved ≡ Some (seat, event) }
+        requires quiet { is_told event ≡ false }
         ensures reply { result ≡ reply_to self.old seat event }
         ensures machine { self.new ≡ after_event self.old seat event result }
     {
@@ -118,9 +121,9 @@ impl Machine {
         enter(
             &mut self.board,
             &mut self.trail.entries,
+            seat,
             event,
             reserved,
-            self.alloc,
         )
     }
 
@@ -128,15 +131,9 @@ impl Machine {
         ensures reply { result ≡ reply_to self.old seat (IoDid effect) }
         ensures machine { self.new ≡ after_event self.old seat (IoDid effect) result }
     {
-        self.reserved = None;
+        let_go(&mut self.reserved);
         states_are_sound(&self.board.setup, self.trail.entries.as_slice());
-        record(
-            &mut self.board,
-            &mut self.trail.entries,
-            seat,
-            effect,
-            self.alloc,
-        )
+        record(&mut self.board, &mut self.trail.entries, seat, effect)
     }
 
     /// Hands out the buffer of the call that ioproc k has begun, for the bytes that come of it.
@@ -148,7 +145,7 @@ impl Machine {
         ensures short { IfSome (call_begun k self.old) (λ call. message_length call < 2 ^ 32) }
         ensures machine { self.new ≡ record self.old { rooms = changed (λ _. false) self.old.rooms (k - 1) } }
     {
-        lend(&mut self.board.desks, k, self.alloc)
+        self.board.io.lend(k)
     }
 
     /// All that happened.

@@ -1,214 +1,209 @@
-ghost use Rattle.std.specs.Prelude.{◌≡◌, IfOk, length};
-ghost use Rattle.p9_manual.specs.State.{by_id};
-ghost use Rattle.p9_machine.specs.Copies.{IsOfCall, IsOfAnswer, IsOfNext, IsOfPosted, IsForThread, IsNameOf, IsToldAtOnce, IsForEvent, IsTold};
-ghost use Rattle.p9_sched.specs.Turns.{answer_next};
-ghost use Rattle.p9_machine.specs.Board.{Rest, state_of, calls_of, AreParts};
-ghost use Rattle.p9_machine.specs.Desks.{ioprocs_of, rooms_of};
-ghost use Rattle.p9_machine.specs.Ready.{HasMemory, HasMemoryIn, room_needed};
+ghost use Rattle.std.specs.Prelude.{◌≡◌, Some, None, IfOk};
+ghost use Rattle.p9_word.specs.declared.trail.Event.TheVariants.{Call};
+ghost use Rattle.p9_word.specs.declared.trail.Seat.TheVariants.{Proc, Io as IoSeat};
+ghost use Rattle.p9_word.specs.declared.request.Request.TheVariants.{Thread as ThreadRequest, Chan as ChanRequest, Io as IoRequest};
+ghost use Rattle.p9_machine.specs.Board.{TakesMemory};
+ghost use Rattle.p9_machine.specs.Ready.{IsFor, IsStray};
 
-use crate::alternation::chan_memory;
 use crate::board::Board;
-use crate::desk::Desk;
-use crate::desks::{find_ioproc, taken_room};
-use crate::next::is_place;
-use crate::spares::Spares;
-use crate::threads::is_made;
-use p9_alt::{Alts, Wake};
-use p9_manual::Ioproc;
-use p9_sched::Sched;
-use p9_word::{
-    AltEntry, Answer, Datum, Event, IoAnswer, IoCall, Msg, NoMemory, Request, Room, Seat, Seq,
-    ThreadReq, Tid,
-};
+use crate::messages::{message_of_next, message_posted};
+use p9_word::{ChanReq, Datum, Event, IoReq, Msg, NoMemory, Request, Seat, ThreadReq, Tid};
 use std::alloc::Global;
 
-/// The event that there is memory for, with copies of what stands in more than one place after it.
+/// A request, with what it needs beside what the parts keep ready for it.
+#[derive(Drop)]
+pub(crate) enum Asked {
+    /// On threads.
+    Thread(ThreadReq, p9_thread_calls::Spare),
+    /// On channels.
+    Chan(ChanReq, p9_chan_calls::Spare),
+    /// On ioprocs.
+    Io(IoReq),
+}
+
+/// The event that there is memory for, with what it needs beside what the parts keep ready for it.
+#[derive(Drop)]
+pub(crate) enum Needs {
+    /// In this proc this thread makes a request.
+    Call(u32, Tid, Asked),
+    /// This proc asks which thread is to run.
+    Next(u32),
+    /// This ioproc asks for its call.
+    Take(u32, p9_io_calls::Spare),
+    /// An event that comes from where none of its kind can, or tells what a call came to.
+    Other(Seat, Event),
+}
+
+/// The memory of an event.
 #[derive(Drop)]
 pub(crate) struct Reserved {
-    /// Who makes it.
-    pub(crate) seat: Seat,
-    /// The entry's copy of it.
-    pub(crate) event: Event,
-    /// What else it needs.
-    pub(crate) spares: Spares,
-    /// The message of the entry's copy of the reply.
+    /// What the event needs.
+    pub(crate) needs: Needs,
+    /// The message of the entry's copy of its reply.
     pub(crate) told: Msg,
 }
 
-/// A copy of the message of a call.
-fn message_of_call(call: &IoCall) -> Result<Msg, NoMemory>
-    ensures { IfOk result (λ m. IsOfCall call.now m) }
+/// Drops what was reserved.
+#[cold]
+#[inline(never)]
+fn forget(kept: &mut Option<Reserved>)
+    ensures { kept.new ≡ None }
 {
-    match call {
-        IoCall::IoWrite(bytes) => bytes.copy(),
-        _ => Ok(Msg::new()),
+    *kept = None;
+}
+
+/// Nothing is reserved any more. Mostly nothing was, and then nothing is moved.
+#[inline(always)]
+pub(crate) fn let_go(kept: &mut Option<Reserved>)
+    ensures { kept.new ≡ None }
+{
+    if kept.is_some() {
+        forget(kept);
     }
 }
 
-/// A copy of the name of a thread.
-fn name_of(sched: &Sched, t: Tid, alloc: Global) -> Result<Msg, NoMemory>
-    ensures { IfOk result (λ m. IsNameOf (by_id sched.now.threads t) m) }
+/// Keeps what is reserved. Nothing was kept, and the take says so to the compiler: no old memory is read to be dropped.
+#[inline(always)]
+pub(crate) fn keep(kept: &mut Option<Reserved>, reserved: Reserved)
+    requires { kept.old ≡ None }
+    ensures { kept.new ≡ Some reserved }
 {
-    if is_made(sched, t) {
-        Msg::from_slice(alloc, sched.name(t))
-    } else {
-        Ok(Msg::new())
-    }
+    let None = kept.take() else {
+        unreachable!();
+    };
+    *kept = Some(reserved);
 }
 
-/// What a request of thread t on threads needs: its name, where it asks for that.
-fn for_thread(sched: &Sched, t: Tid, request: &ThreadReq, alloc: Global) -> Result<Msg, NoMemory>
-    ensures { IfOk result (λ m. IsForThread request.now (by_id sched.now.threads t) m) }
+/// For a request on threads.
+fn for_threads(
+    board: &mut Board,
+    p: u32,
+    t: Tid,
+    request: &ThreadReq,
+    alloc: Global,
+) -> Result<Reserved, NoMemory>
+    ensures takes { TakesMemory board.old board.new }
+    ensures memory { IfOk result (IsFor board.new (Proc p) (Call t (ThreadRequest request.now))) }
+{
+    let copy = request.copied(alloc)?;
+    let spare = p9_thread_calls::reserve(&mut board.sched, t, request, alloc)?;
+    let told = spare.message()?;
+    Ok(Reserved {
+        needs: Needs::Call(p, t, Asked::Thread(copy, spare)),
+        told,
+    })
+}
+
+/// For a request on channels.
+fn for_chans(
+    board: &mut Board,
+    p: u32,
+    t: Tid,
+    request: &ChanReq,
+    alloc: Global,
+) -> Result<Reserved, NoMemory>
+    ensures takes { TakesMemory board.old board.new }
+    ensures memory { IfOk result (IsFor board.new (Proc p) (Call t (ChanRequest request.now))) }
+{
+    let copy = request.copied(alloc)?;
+    let spare = p9_chan_calls::reserve(&mut board.alts, request, alloc)?;
+    Ok(Reserved {
+        needs: Needs::Call(p, t, Asked::Chan(copy, spare)),
+        told: Msg::new(),
+    })
+}
+
+/// For a request on ioprocs.
+fn for_ioprocs(
+    board: &Board,
+    p: u32,
+    t: Tid,
+    request: &IoReq,
+    alloc: Global,
+) -> Result<Reserved, NoMemory>
+    ensures { IfOk result (IsFor board.now (Proc p) (Call t (IoRequest request.now))) }
+{
+    let copy = request.copied(alloc)?;
+    Ok(Reserved {
+        needs: Needs::Call(p, t, Asked::Io(copy)),
+        told: Msg::new(),
+    })
+}
+
+/// For a request of thread t, told by proc p.
+fn for_request(
+    board: &mut Board,
+    p: u32,
+    t: Tid,
+    request: &Request,
+    alloc: Global,
+) -> Result<Reserved, NoMemory>
+    ensures takes { TakesMemory board.old board.new }
+    ensures memory { IfOk result (IsFor board.new (Proc p) (Call t request.now)) }
 {
     match request {
-        ThreadReq::ThreadGetName => name_of(sched, t, alloc),
-        _ => Ok(Msg::new()),
+        Request::Thread(request) => for_threads(board, p, t, request, alloc),
+        Request::Chan(request) => for_chans(board, p, t, request, alloc),
+        Request::Io(request) => for_ioprocs(board, p, t, request, alloc),
     }
 }
 
-/// A copy of the message of the call that is posted at ioproc k.
-fn message_posted(desks: &[Desk], k: u32) -> Result<Msg, NoMemory>
-    ensures { IfOk result (λ m. IsOfPosted (by_id (ioprocs_of desks.now) k) m) }
+/// For a proc that asks which thread is to run.
+fn for_turn(board: &Board, p: u32) -> Result<Reserved, NoMemory>
+    ensures { IfOk result (IsFor board.now (Proc p) Event.Next) }
 {
-    match find_ioproc(desks, k) {
-        Some(Ioproc::Posted(_, call)) => message_of_call(call),
-        _ => Ok(Msg::new()),
-    }
+    let told = message_of_next(&board.sched, p)?;
+    Ok(Reserved {
+        needs: Needs::Next(p),
+        told,
+    })
 }
 
-/// A copy of the message of an answer.
-fn message_of_answer(answer: &Answer) -> Result<Msg, NoMemory>
-    ensures { IfOk result (λ m. IsOfAnswer answer.now m) }
+/// For an ioproc that asks for its call; and for what it tells later.
+fn for_take(board: &mut Board, k: u32, alloc: Global) -> Result<Reserved, NoMemory>
+    ensures takes { TakesMemory board.old board.new }
+    ensures memory { IfOk result (IsFor board.new (IoSeat k) Event.IoTake) }
 {
-    match answer {
-        Answer::Got { msg, .. } | Answer::Index { msg, .. } => msg.copy(),
-        Answer::Text(text) => text.copy(),
-        Answer::Io(IoAnswer::Bytes(bytes)) => bytes.copy(),
-        _ => Ok(Msg::new()),
-    }
+    let told = message_posted(&board.io, k)?;
+    let spare = p9_io_calls::reserve(&mut board.io, k, alloc)?;
+    Ok(Reserved {
+        needs: Needs::Take(k, spare),
+        told,
+    })
 }
 
-/// A copy of the message of the answer that the next thread of proc p goes on with.
-fn message_of_next(board: &Board, p: u32) -> Result<Msg, NoMemory>
-    requires { length board.now.sched.lines ≡ board.now.setup.places }
-    ensures { IfOk result (λ m. IsOfNext (answer_next p board.now.sched) m) }
+/// For an event that comes from where none of its kind can, or tells what a call came to.
+fn for_other(board: &Board, seat: Seat, event: &Event, alloc: Global) -> Result<Reserved, NoMemory>
+    requires { IsStray seat event.now }
+    ensures { IfOk result (IsFor board.now seat event.now) }
 {
-    if !is_place(&board.setup, p) {
-        return Ok(Msg::new());
-    }
-    match board.sched.next_answer(p) {
-        Some(answer) => message_of_answer(answer),
-        None => Ok(Msg::new()),
-    }
+    let _ = board;
+    let event = event.copied(alloc)?;
+    Ok(Reserved {
+        needs: Needs::Other(seat, event),
+        told: Msg::new(),
+    })
 }
 
-/// The message of an answer at once to a request of thread t.
-fn told_at_once(sched: &Sched, t: Tid, request: &Request, alloc: Global) -> Result<Msg, NoMemory>
-    ensures { IfOk result (λ m. IsToldAtOnce t request.now sched.now.threads m) }
-{
-    match request {
-        Request::Thread(request) => for_thread(sched, t, request, alloc),
-        _ => Ok(Msg::new()),
-    }
-}
-
-/// The message that the state or the reply needs beside those of the event.
-pub(crate) fn extra_for(
-    board: &Board,
-    seat: Seat,
-    event: &Event,
-    alloc: Global,
-) -> Result<Msg, NoMemory>
-    ensures { IfOk result (λ m. IsForEvent seat event.now board.now.sched.threads (ioprocs_of board.now.desks.items) m) }
-{
-    match (seat, event) {
-        (Seat::Proc(_), Event::Call(t, request)) => told_at_once(&board.sched, *t, request, alloc),
-        (Seat::Io(k), Event::IoTake) => message_posted(&board.desks, k),
-        _ => Ok(Msg::new()),
-    }
-}
-
-/// The message that the entry's copy of the reply needs.
-pub(crate) fn told_for(
-    board: &Board,
-    seat: Seat,
-    event: &Event,
-    alloc: Global,
-) -> Result<Msg, NoMemory>
-    requires { length board.now.sched.lines ≡ board.now.setup.places }
-    ensures { IfOk result (λ m. IsTold seat event.now board.now.sched (ioprocs_of board.now.desks.items) m) }
-{
-    match (seat, event) {
-        (Seat::Proc(_), Event::Call(t, request)) => told_at_once(&board.sched, *t, request, alloc),
-        (Seat::Proc(p), Event::Next) => message_of_next(board, p),
-        (Seat::Io(k), Event::IoTake) => message_posted(&board.desks, k),
-        _ => Ok(Msg::new()),
-    }
-}
-
-/// The room that the buffers of an event need.
-fn room_for(board: &Board, seat: Seat, event: &Event) -> usize
-    ensures { result ≡ room_needed seat event.now (ioprocs_of board.now.desks.items) }
-{
-    match (seat, event) {
-        (Seat::Io(k), Event::IoTake) => taken_room(&board.desks, k),
-        _ => 0,
-    }
-}
-
-/// The entries of the request of an event, if it is an alt, and room for who is woken. A refusal changes nothing.
-fn request_memory(
-    alts: &mut Alts,
-    event: &Event,
-    alloc: Global,
-) -> Result<(Seq<AltEntry>, Room<Wake>), NoMemory>
-    ensures chans { alts.new.channels.chans ≡ alts.old.channels.chans }
-    ensures waits { alts.new.waits ≡ alts.old.waits }
-    ensures memory { IfOk result (λ m. HasMemoryIn event.now m.0 m.1 alts.new) }
-{
-    match event {
-        Event::Call(_, Request::Chan(request)) => chan_memory(alts, request, alloc),
-        _ => Ok((Seq::new(alloc), Room::new(alloc))),
-    }
-}
-
-/// Takes the memory on the board that an event needs, and the copies. A refusal changes nothing.
+/// Takes the memory that an event needs, in the parts, and the copies. A refusal changes nothing.
+#[inline(always)]
 pub(crate) fn reserved_for(
     board: &mut Board,
     seat: Seat,
     event: &Event,
     alloc: Global,
 ) -> Result<Reserved, NoMemory>
-    requires { length board.old.sched.lines ≡ board.old.setup.places }
-    ensures state { (rest : Rest) → state_of board.new rest ≡ state_of board.old rest }
-    ensures parts { (rest : Rest) → AreParts board.old rest → AreParts board.new rest }
-    ensures places { length board.new.sched.lines ≡ length board.old.sched.lines }
-    ensures setup { board.new.setup ≡ board.old.setup }
-    ensures rooms { rooms_of board.new.desks.items ≡ rooms_of board.old.desks.items }
-    ensures calls { calls_of board.new ≡ calls_of board.old }
-    ensures event { IfOk result (λ r. (r.seat ≡ seat) × (r.event ≡ event.now)) }
-    ensures memory { IfOk result (HasMemory board.new) }
+    ensures takes { TakesMemory board.old board.new }
+    ensures memory { IfOk result (IsFor board.new seat event.now) }
 {
-    board.make_room()?;
-    let copy = event.copied(alloc)?;
-    let extra = extra_for(board, seat, event, alloc)?;
-    let told = told_for(board, seat, event, alloc)?;
-    let room = room_for(board, seat, event);
-    let mut buffer = Room::new(alloc);
-    buffer.reserve(room)?;
-    let mut second = Room::new(alloc);
-    second.reserve(room)?;
-    let (entries, wakes) = request_memory(&mut board.alts, event, alloc)?;
-    Ok(Reserved {
-        seat,
-        event: copy,
-        spares: Spares {
-            extra,
-            entries,
-            wakes,
-            buffer,
-            second,
-        },
-        told,
-    })
+    match (seat, event) {
+        (Seat::Proc(p), Event::Call(t, request)) => for_request(board, p, *t, request, alloc),
+        (Seat::Proc(p), Event::Next) => for_turn(board, p),
+        (Seat::Io(k), Event::IoTake) => for_take(board, k, alloc),
+        (Seat::Proc(_), Event::IoTake)
+        | (Seat::Proc(_), Event::IoDid(_))
+        | (Seat::Io(_), Event::Call(..))
+        | (Seat::Io(_), Event::Next)
+        | (Seat::Io(_), Event::IoDid(_)) => for_other(board, seat, event, alloc),
+    }
 }

@@ -1,85 +1,160 @@
-ghost use Rattle.std.specs.Prelude.{◌≡◌};
-ghost use Rattle.p9_word.specs.declared.trail.Seat.TheVariants.{Proc};
-ghost use Rattle.p9_manual.specs.State.{by_id};
+ghost use Rattle.std.specs.Prelude.{ℕ, ◌≡◌, ◌+◌, ◌-◌, true, false, List, Some, None, slice_get};
+ghost use Rattle.p9_word.specs.declared.trail.Seat.TheVariants.{Io as IoSeat};
+ghost use Rattle.p9_manual.specs.Chans.{chan_call};
+ghost use Rattle.p9_manual.specs.Ioprocs.{io_call, io_event};
 ghost use Rattle.p9_manual.specs.Places.{runs_there};
-ghost use Rattle.p9_manual.specs.Step.{served, called, outcome};
-ghost use Rattle.p9_machine.specs.Board.{Rest, state_of, HasRoom, IsBoard, IsUsable, IsRunning, Gives, Follows};
-ghost use Rattle.p9_machine.specs.Copies.{IsToldAtOnce, IsForEvent};
-ghost use Rattle.p9_machine.specs.Desks.{ioprocs_of};
-ghost use Rattle.p9_machine.specs.Ready.{HasBuffersFor, HasRequestMemory, HasMemoryIn};
+ghost use Rattle.p9_manual.specs.State.{by_id};
+ghost use Rattle.p9_manual.specs.Step.{makes_entry, served, called, outcome};
+ghost use Rattle.p9_manual.specs.Threads.{thread_call};
+ghost use Rattle.p9_sched.specs.Messages.{IsBare, IsOfReply};
+ghost use Rattle.p9_thread_calls.specs.Memory.{HasMemory as HasThreadMemory, message_of};
+ghost use Rattle.p9_chan_calls.specs.Spares.{IsSpare as IsChanSpare};
+ghost use Rattle.p9_io_calls.specs.Needs.{IsSpare as IsIoSpare};
+ghost use Rattle.p9_machine.specs.Board.{IsBoard, IsRunning, GivesAll, Stays, Follows, calls_of};
+ghost use Rattle.p9_machine.specs.Ready.{HasRequestMemory, IsReadyFor, IsTold, request_of, seat_of, event_of, message_for};
+ghost use Rattle.p9_machine.specs.Shown.{is_told};
 
 use crate::board::Board;
-use crate::spares::Spares;
-use crate::threads::is_made;
-use crate::{chans, ioprocs, next, threads};
+use crate::ends::{exit_all, exit_thread};
+use crate::next::next_event;
+use crate::reserve::{Asked, Needs};
 use p9_sched::{Place, Sched};
-use p9_word::{Event, Reply, Request, Seat, Tid};
-use std::alloc::Global;
-
-/// A request, by its group.
-#[tactic(auto, unfolding(p9_manual::specs::Step::served))]
-fn served(board: &mut Board, t: Tid, request: Request, spares: Spares) -> Reply
-    requires board { IsBoard board.old }
-    requires runs { IsRunning t board.old.sched }
-    requires room { HasRoom board.old }
-    requires extra { IsToldAtOnce t request board.old.sched.threads spares.extra }
-    requires memory { HasRequestMemory request spares.entries spares.wakes board.old.alts }
-    ensures { (rest : Rest) → IsUsable board.old rest → Gives board.old rest (served board.old.setup t request (state_of board.old rest)) result board.new }
-{
-    match request {
-        Request::Thread(request) => threads::thread_call(board, t, request, spares.extra),
-        Request::Chan(request) => chans::chan_call(board, t, request, spares),
-        Request::Io(request) => ioprocs::io_call(board, t, request),
-    }
-}
+use p9_word::{ChanReq, Effect, Event, IoReq, Reply, ThreadReq, Tid};
 
 /// Whether thread t runs in proc p.
 fn runs_there(sched: &Sched, t: Tid, p: u32) -> bool
     ensures { result ≡ runs_there p (by_id sched.now.threads t) }
 {
-    is_made(sched, t) && sched.proc_of(t) == p && sched.place(t) == Place::Running
+    sched.is_made(t) && sched.proc_of(t) == p && sched.place(t) == Place::Running
 }
 
-/// A request of a thread, told by proc p.
-#[tactic(auto, unfolding(p9_manual::specs::Step::called))]
-fn called(board: &mut Board, p: u32, t: Tid, request: Request, spares: Spares) -> Reply
+/// A request of a thread on threads. How it ends concerns every part.
+fn thread_call(
+    board: &mut Board,
+    t: Tid,
+    request: ThreadReq,
+    spare: p9_thread_calls::Spare,
+) -> Reply
+    requires runs { IsRunning t board.old.sched }
+    requires memory { HasThreadMemory request t board.old.sched spare }
+    ensures gives { GivesAll (thread_call board.old.setup t request) board.old result board.new }
+    ensures stays { Stays board.old board.new }
+    ensures told { IsOfReply result (message_of spare) }
+{
+    match request {
+        ThreadReq::ThreadExits { .. } => exit_thread(board, t),
+        ThreadReq::ThreadExitsAll { .. } => exit_all(board),
+        request => p9_thread_calls::call(&mut board.sched, &board.setup, t, request, spare),
+    }
+}
+
+/// A request of a thread on channels.
+fn chan_call(board: &mut Board, t: Tid, request: ChanReq, spare: p9_chan_calls::Spare) -> Reply
     requires board { IsBoard board.old }
-    requires room { HasRoom board.old }
-    requires extra { IsToldAtOnce t request board.old.sched.threads spares.extra }
-    requires memory { HasRequestMemory request spares.entries spares.wakes board.old.alts }
-    ensures { (rest : Rest) → IsUsable board.old rest → Gives board.old rest (called board.old.setup p t request (state_of board.old rest)) result board.new }
+    requires runs { IsRunning t board.old.sched }
+    requires memory { IsChanSpare request spare board.old.alts }
+    ensures gives { GivesAll (chan_call board.old.setup t request) board.old result board.new }
+    ensures stays { Stays board.old board.new }
+    ensures bare { IsBare result }
+{
+    p9_chan_calls::call(
+        &mut board.sched,
+        &mut board.alts,
+        &mut board.generator,
+        board.entries,
+        t,
+        request,
+        spare,
+    )
+}
+
+/// A request of a thread on ioprocs.
+fn io_call(board: &mut Board, t: Tid, request: IoReq) -> Reply
+    requires { IsRunning t board.old.sched }
+    ensures gives { GivesAll (io_call board.old.setup t request) board.old result board.new }
+    ensures stays { Stays board.old board.new }
+    ensures bare { IsBare result }
+{
+    p9_io_calls::call(&mut board.sched, &mut board.io, t, request)
+}
+
+/// Ioproc k asks for its call.
+#[inline(always)]
+fn take_call(board: &mut Board, k: u32, spare: p9_io_calls::Spare) -> Reply
+    requires { IsIoSpare (by_id board.old.io.ioprocs k) (slice_get board.old.io.prepared (k - 1)) spare }
+    ensures gives { GivesAll (λ s. io_event k s None) board.old result board.new }
+    ensures follows { Follows board.old (IoSeat k) result board.new }
+{
+    p9_io_calls::take(&board.sched, &mut board.io, k, board.over, spare)
+}
+
+/// What an ioproc tells that its begun call came to.
+pub(crate) fn tell_call(board: &mut Board, k: u32, effect: &Effect) -> Reply
+    requires { IsBoard board.old }
+    ensures gives { GivesAll (λ s. io_event k s (Some effect.now)) board.old result board.new }
+    ensures stays { Stays board.old board.new }
+    ensures told { makes_entry result ≡ true → result ≡ Reply.Noted }
+    ensures fewer { makes_entry result ≡ true → calls_of board.new + 1 ≡ calls_of board.old }
+{
+    p9_io_calls::tell(&mut board.sched, &mut board.io, k, effect)
+}
+
+/// The reply to an event that comes from where none of its kind can.
+fn refuse(event: Event) -> Reply
+    ensures { result ≡ Reply.Stray }
+{
+    let _ = event;
+    Reply::Stray
+}
+
+/// A request of a thread that runs, by its group.
+#[tactic(auto, unfolding(p9_manual::specs::Step::served))]
+fn served(board: &mut Board, t: Tid, asked: Asked) -> Reply
+    requires board { IsBoard board.old }
+    requires runs { IsRunning t board.old.sched }
+    requires memory { HasRequestMemory board.old t asked }
+    ensures gives { GivesAll (served board.old.setup t (request_of asked)) board.old result board.new }
+    ensures stays { Stays board.old board.new }
+    ensures told { IsOfReply result (message_for asked) }
+{
+    match asked {
+        Asked::Thread(request, spare) => thread_call(board, t, request, spare),
+        Asked::Chan(request, spare) => chan_call(board, t, request, spare),
+        Asked::Io(request) => io_call(board, t, request),
+    }
+}
+
+/// A request that is told by proc p: it is served where its thread runs there.
+#[tactic(auto, unfolding(p9_manual::specs::Step::called))]
+#[inline(always)]
+fn called(board: &mut Board, p: u32, t: Tid, asked: Asked) -> Reply
+    requires board { IsBoard board.old }
+    requires memory { HasRequestMemory board.old t asked }
+    ensures gives { GivesAll (called board.old.setup p t (request_of asked)) board.old result board.new }
+    ensures stays { Stays board.old board.new }
+    ensures told { IsOfReply result (message_for asked) }
 {
     if runs_there(&board.sched, t, p) {
-        served(board, t, request, spares)
+        served(board, t, asked)
     } else {
         Reply::Stray
     }
 }
 
-/// One event, but for the number of entries.
-#[tactic(auto, unfolding(p9_manual::specs::Step::outcome, p9_manual::specs::Ioprocs::io_event))]
-pub(crate) fn outcome(
-    board: &mut Board,
-    seat: Seat,
-    event: Event,
-    spares: Spares,
-    alloc: Global,
-) -> Reply
+/// One event that there is memory for, but for the number of entries.
+#[inline(always)]
+pub(crate) fn outcome(board: &mut Board, needs: Needs) -> Reply
     requires board { IsBoard board.old }
-    requires room { HasRoom board.old }
-    requires buffers { HasBuffersFor seat event (ioprocs_of board.old.desks.items) spares }
-    requires extra { IsForEvent seat event board.old.sched.threads (ioprocs_of board.old.desks.items) spares.extra }
-    requires memory { HasMemoryIn event spares.entries spares.wakes board.old.alts }
-    ensures { (rest : Rest) → IsUsable board.old rest → Follows board.old rest seat (outcome board.old.setup seat event (state_of board.old rest)) result board.new }
+    requires memory { IsReadyFor board.old needs }
+    requires quiet { is_told (event_of needs) ≡ false }
+    ensures gives { GivesAll (outcome board.old.setup (seat_of needs) (event_of needs)) board.old result board.new }
+    ensures follows { Follows board.old (seat_of needs) result board.new }
+    ensures told { (m : List ℕ) → IsTold needs board.old.sched board.old.io.ioprocs m → IsOfReply result m }
 {
-    match (seat, event) {
-        (Seat::Proc(p), Event::Call(t, request)) => called(board, p, t, request, spares),
-        (Seat::Proc(p), Event::Next) => next::next_event(board, p),
-        (Seat::Io(k), Event::IoTake) => ioprocs::take_call(board, k, spares),
-        (Seat::Io(k), Event::IoDid(effect)) => ioprocs::did_call(board, k, &effect, alloc),
-        (Seat::Proc(_), Event::IoTake) => Reply::Stray,
-        (Seat::Proc(_), Event::IoDid(_)) => Reply::Stray,
-        (Seat::Io(_), Event::Call(..)) => Reply::Stray,
-        (Seat::Io(_), Event::Next) => Reply::Stray,
+    match needs {
+        Needs::Call(p, t, asked) => called(board, p, t, asked),
+        Needs::Next(p) => next_event(board, p),
+        Needs::Take(k, spare) => take_call(board, k, spare),
+        Needs::Other(_, event) => refuse(event),
     }
 }

@@ -10,11 +10,12 @@ use Rattle.p9_word.specs.declared.request.Request.{Request}
 use Rattle.p9_word.specs.declared.setup.Setup.{Setup}
 use Rattle.p9_manual.specs.declared.state.Channel.{Channel}
 use Rattle.p9_manual.specs.declared.state.Party.{Party}
-use Rattle.p9_manual.specs.Offers.{Alternation, party, parties, is_nop}
+use Rattle.p9_manual.specs.Offers.{Alternation, party, parties}
+use Rattle.p9_manual.specs.Entries.{is_nop}
 use Rattle.p9_manual.specs.Ready.{ready_entries, fits}
 use Rattle.p9_manual.specs.Commit.{Deal, commit}
 use Rattle.p9_manual.specs.Words.{word_after}
-use Rattle.p9_manual.specs.State.{State, Outcome, bad, done, waiting, woken, waits_without}
+use Rattle.p9_manual.specs.State.{State, Outcome, bad, done, waiting, wake}
 
 -- what becomes of an alt: all its entries are closed; one of them goes on; it doesn't block; or the caller waits
 pub data Verdict : Type 0 where
@@ -36,6 +37,7 @@ abbrev pub unready : Ending → Verdict
 unready NoBlk = NoneReady
 unready End = MustWait
 
+-- with these entries ready: none, one, or more
 abbrev pub verdict_on : ℕ → Party → Ending → List Channel → List Party → List ℕ → Verdict
 verdict_on word me ending chans waits [] = unready ending
 verdict_on word me ending chans waits (i ∷ []) = Commits (commit me i chans waits)
@@ -59,12 +61,13 @@ parties_without (Some w) waits = filter (λ u. not (u.tid == w.0)) waits
 -- who is woken leaves the waits with all its entries, and is ready with its answer
 abbrev pub with_woken : Option (ℕ × Answer) → State → State
 with_woken None s = s
-with_woken (Some w) s = woken w.0 w.1 (waits_without w.0 s.waits) s
+with_woken (Some w) s = wake w.0 w.1 s
 
--- the thread that is woken is ready before the caller
+-- an entry went on: who is woken is ready before the caller, and what moved is told
 abbrev pub dealt : ℕ → Deal → State → Outcome
-dealt t d s = done t d.answer (with_woken d.woken (record s { chans = d.chans }))
+dealt t d s = record (done t d.answer (with_woken d.woken (record s { chans = d.chans }))) { moved = d.moved }
 
+-- what the verdict on an alt of thread t comes to
 abbrev pub decided : ℕ → Request → State → Verdict → Outcome
 decided t request s AllClosed = done t Closed s
 decided t request s (Commits d) = dealt t d s

@@ -33,12 +33,23 @@ on_channel (ask.ChanCreate cap elsize) s = create_channel cap elsize s
 on_channel (ask.ChanFree c) s = free c s (unfreed (by_id s.chans c))
 on_channel (ask.ChanClose c) s = close c s (unfreed (by_id s.chans c))
 on_channel (ask.ChanClosing c) s = closing s (unfreed (by_id s.chans c))
-on_channel r s = bad s
+-- the others are alts, and never come here
+on_channel (ask.Alt ending entries) s = bad s
+on_channel (ask.Send c value) s = bad s
+on_channel (ask.Recv keep c) s = bad s
+on_channel (ask.NbSend c value) s = bad s
+on_channel (ask.NbRecv keep c) s = bad s
+on_channel (ask.SendUl c n) s = bad s
+on_channel (ask.RecvUl c) s = bad s
+on_channel (ask.NbSendUl c n) s = bad s
+on_channel (ask.NbRecvUl c) s = bad s
+on_channel (ask.ChanPrint c text) s = bad s
 
 -- the other requests are alts
 abbrev pub by_alternation : Setup → ℕ → ChanReq → State → Option Alternation → Outcome
 by_alternation setup t r s None = on_channel r s
 by_alternation setup t r s (Some a) = alt setup t (ChanRequest r) a s
 
+-- a request of thread t on channels
 unfoldable pub chan_call : Setup → ℕ → ChanReq → State → Outcome
 chan_call setup t r s = by_alternation setup t r s (alternation r)

@@ -5,13 +5,16 @@ use Rattle.p9_word.specs.declared.answer.Answer.{Answer}
 use Rattle.p9_word.specs.declared.answer.Answer.TheVariants.{Done, Number, Minus}
 use Rattle.p9_manual.specs.declared.state.Channel.{Channel}
 use Rattle.p9_manual.specs.declared.state.Party.{Party}
-use Rattle.p9_manual.specs.Offers.{parties, is_on, waits_on, first_number}
-use Rattle.p9_manual.specs.Commit.{failed_answer}
-use Rattle.p9_manual.specs.State.{State, Outcome, changed, bad, now, woken, waits_without}
+use Rattle.p9_manual.specs.Offers.{parties}
+use Rattle.p9_manual.specs.Entries.{is_on, waits_on, first_number}
+use Rattle.p9_manual.specs.Told.{failed_answer}
+use Rattle.p9_manual.specs.State.{State, Outcome, changed, bad, now, wake}
 
+-- the channel, closed
 abbrev pub closed_chan : Channel → Channel
 closed_chan chan = record chan { closed = true }
 
+-- the channel, freed
 abbrev pub freed_chan : Channel → Channel
 freed_chan chan = record chan { freed = true }
 
@@ -26,13 +29,14 @@ all_failed c waits = map (failed_on c) (filter (waits_on c) waits)
 -- these threads leave the waits and are ready with their answers, in this order
 abbrev pub all_woken : List (ℕ × Answer) → State → State
 all_woken [] s = s
-all_woken (w ∷ ws) s = all_woken ws (woken w.0 w.1 (waits_without w.0 s.waits) s)
+all_woken (w ∷ ws) s = all_woken ws (wake w.0 w.1 s)
 
 -- the channel is closed, and each thread that waits on it is woken once. Its elements stay
 abbrev pub close_channel : ℕ → State → Outcome
 close_channel c s =
     now (Number 1) (all_woken (all_failed c (parties s.waits)) (record s { chans = changed closed_chan s.chans (c - 1) }))
 
+-- a channel is closed once: the answer tells whether it was now
 abbrev pub close : ℕ → State → Option Channel → Outcome
 close c s None = bad s
 close c s (Some chan) = if chan.closed then now (Number 0) s else close_channel c s

@@ -1,26 +1,18 @@
 -- What comes of an entry that goes on: the value that moves, and the answers on both sides. thread(2).
-use Rattle.std.specs.Prelude.{ℕ, ◌-◌, Bool, true, false, List, [], ◌∷◌, ◌++◌, Option, Some, None, if◌then◌else◌, replicate, slice_get}
+use Rattle.std.specs.Prelude.{ℕ, ◌-◌, List, [], ◌∷◌, ◌++◌, Option, Some, None, if◌then◌else◌, slice_get}
 use Rattle.std.specs.List.{find}
 use Rattle.p9_word.specs.declared.alt.AltOp.{AltOp}
 use Rattle.p9_word.specs.declared.alt.AltOp.TheVariants.{Snd, Rcv, Nop}
 use Rattle.p9_word.specs.declared.alt.Slot.{Slot}
-use Rattle.p9_word.specs.declared.alt.Slot.TheVariants.{Null, Give, Keep}
 use Rattle.p9_word.specs.declared.alt.AltEntry.{AltEntry}
 use Rattle.p9_word.specs.declared.answer.Answer.{Answer}
-use Rattle.p9_word.specs.declared.answer.Answer.TheVariants.{Sent, Got, Index, Closed}
 use Rattle.p9_manual.specs.declared.state.Channel.{Channel}
 use Rattle.p9_manual.specs.declared.state.Element.{Element}
 use Rattle.p9_manual.specs.declared.state.Party.{Party}
-use Rattle.p9_manual.specs.Offers.{sends_to, receives_from, sends_on, receives_on, first_number, first_slot}
+use Rattle.p9_manual.specs.Entries.{sends_on, receives_on}
 use Rattle.p9_manual.specs.Ready.{is_unbuffered}
-use Rattle.p9_manual.specs.State.{by_id, changed}
-
--- a value that left a channel: the channel, the place of the call that sent it, the thread that received it, and its bytes
-pub record Move : Type 0 where
-  pub chan : ℕ
-  pub from : ℕ
-  pub to : ℕ
-  pub bytes : List ℕ
+use Rattle.p9_manual.specs.State.{Move, by_id, changed}
+use Rattle.p9_manual.specs.Told.{sent_bytes, kept_bytes, sent_answer, got_answer, failed_answer, receiver_answer, sender_answer, sender_bytes}
 
 -- what an alt came to: the caller's answer; who else is woken, with which answer; the value that left a channel, if one
 -- did; and the channels after it
@@ -30,40 +22,7 @@ pub record Deal : Type 0 where
   pub moved : Option Move
   pub chans : List Channel
 
--- the bytes of what an entry sends: no value stands for as many zeros as an element has
-abbrev pub sent_bytes : ℕ → Slot → List ℕ
-sent_bytes elsize (Give m) = m
-sent_bytes elsize Null = replicate elsize 0
-sent_bytes elsize Keep = []
-
--- the bytes that a receive keeps: a discarded value has none
-abbrev pub kept_bytes : Slot → List ℕ → List ℕ
-kept_bytes Keep m = m
-kept_bytes Null m = []
-kept_bytes (Give n) m = []
-
--- the answers, in the form of send and recv or in that of alt, which tells the number of the entry
-abbrev pub sent_answer : Bool → ℕ → Answer
-sent_answer single i = if single then Sent else Index false i None []
-
-abbrev pub got_answer : Bool → ℕ → ℕ → List ℕ → Answer
-got_answer single i from bytes = if single then Got from bytes else Index false i (Some from) bytes
-
-abbrev pub failed_answer : Bool → ℕ → Answer
-failed_answer single i = if single then Closed else Index true i None []
-
--- the answer of a thread that waits and is sent bytes on channel c: its first entry that receives there takes them
-abbrev pub receiver_answer : ℕ → ℕ → List ℕ → Party → Answer
-receiver_answer c from bytes w =
-    got_answer w.single (first_number (receives_from c) w.entries) from (kept_bytes (first_slot (receives_from c) w.entries) bytes)
-
--- the answer of a thread that waits and whose value is taken on channel c: its first entry that sends there gives it
-abbrev pub sender_answer : ℕ → Party → Answer
-sender_answer c w = sent_answer w.single (first_number (sends_to c) w.entries)
-
-abbrev pub sender_bytes : ℕ → ℕ → Party → List ℕ
-sender_bytes c elsize w = sent_bytes elsize (first_slot (sends_to c) w.entries)
-
+-- the channel, with these elements
 abbrev pub holding : List Element → Channel → Channel
 holding elements chan = record chan { elements = elements }
 
@@ -71,6 +30,7 @@ holding elements chan = record chan { elements = elements }
 abbrev pub with_elements : ℕ → List Element → List Channel → List Channel
 with_elements c elements chans = changed (holding elements) chans (c - 1)
 
+-- an element, from the call of this number
 abbrev pub element : ℕ → List ℕ → Element
 element from bytes = record { from = from; msg = bytes }
 
@@ -126,6 +86,7 @@ abbrev pub refilled : ℕ → ℕ → List Element → Option Party → List Ele
 refilled c elsize rest None = rest
 refilled c elsize rest (Some w) = rest ++ element w.at (sender_bytes c elsize w) ∷ []
 
+-- who waits to send is woken, if anyone does
 abbrev pub sender_woken : ℕ → Option Party → Option (ℕ × Answer)
 sender_woken c None = None
 sender_woken c (Some w) = Some (w.tid, sender_answer c w)
@@ -143,12 +104,14 @@ receive_from me i slot c chans waits chan (x ∷ rest) =
       chans = with_elements c (refilled c chan.elsize rest (find (sends_on c) waits)) chans;
     }
 
+-- an entry with this op and slot goes on. A channel that isn't there, and a no-op, are never ready
 abbrev pub commit_op : Party → ℕ → AltOp → Slot → ℕ → List Channel → List Party → Option Channel → Deal
 commit_op me i op slot c chans waits None = failed me i chans
 commit_op me i Snd slot c chans waits (Some chan) = commit_send me i (sent_bytes chan.elsize slot) c chans waits chan
 commit_op me i Rcv slot c chans waits (Some chan) = receive_from me i slot c chans waits chan chan.elements
 commit_op me i Nop slot c chans waits (Some chan) = failed me i chans
 
+-- an entry goes on. An alt has each entry that is ready
 abbrev pub commit_entry : Party → ℕ → List Channel → List Party → Option AltEntry → Deal
 commit_entry me i chans waits None = failed me i chans
 commit_entry me i chans waits (Some e) = commit_op me i e.op e.slot e.chan chans waits (by_id chans e.chan)

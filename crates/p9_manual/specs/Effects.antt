@@ -1,21 +1,62 @@
 -- What a call through an ioproc may come to. ioproc(2) has the calls; which effects fit is this project's own.
-use Rattle.std.specs.Prelude.{ℕ, ◌≡◌, ◌≤◌, Bool, false, List, [], length, take, if◌then◌else◌, nat_lt}
+use Rattle.std.specs.Prelude.{ℕ, ◌≡◌, ◌≤◌, ◌==◌, ◌&&◌, ◌||◌, Bool, true, false, List, [], length, take, if◌then◌else◌, nat_lt, nat_le}
 use Rattle.p9_word.specs.declared.io_call.IoCall.{IoCall}
 use Rattle.p9_word.specs.declared.io_call.IoCall.TheVariants.{IoOpen, IoReadN, IoWrite, IoClose}
 use Rattle.p9_word.specs.declared.io_call.Effect.{Effect}
 use Rattle.p9_word.specs.declared.io_call.Effect.TheVariants.{Opened, Shut, Got, Wrote, Refused}
 
--- the effects that fit a call: a read gives at most as many bytes as were asked for, and a write that did not fail takes all
+-- how an effect fits a call: in no case, in each case, where so many of at most so many bytes were read, or where so many
+-- of all bytes were written and the write failed or did not
+pub data Fitting : Type 0 where
+  Never : Fitting
+  Always : Fitting
+  Reads : ℕ → ℕ → Fitting
+  Writes : ℕ → ℕ → Bool → Fitting
+
+-- THE table of what fits: for each call each effect
+abbrev pub fitting : IoCall → Effect → Fitting
+fitting IoOpen Opened = Always
+fitting IoOpen Refused = Always
+fitting IoOpen Shut = Never
+fitting IoOpen (Got failed bytes) = Never
+fitting IoOpen (Wrote count failed) = Never
+fitting IoClose Shut = Always
+fitting IoClose Refused = Always
+fitting IoClose Opened = Never
+fitting IoClose (Got failed bytes) = Never
+fitting IoClose (Wrote count failed) = Never
+fitting (IoReadN n) (Got failed bytes) = Reads (length bytes) n
+fitting (IoReadN n) Refused = Always
+fitting (IoReadN n) Opened = Never
+fitting (IoReadN n) Shut = Never
+fitting (IoReadN n) (Wrote count failed) = Never
+fitting (IoWrite m) (Wrote count failed) = Writes count (length m) failed
+fitting (IoWrite m) Refused = Always
+fitting (IoWrite m) Opened = Never
+fitting (IoWrite m) Shut = Never
+fitting (IoWrite m) (Got failed bytes) = Never
+
+-- what that means: a read gives at most as many bytes as were asked for, and a write that did not fail takes all
+abbrev pub IsFitting : Fitting → Type 0
+IsFitting Never = ⊥
+IsFitting Always = Unit {0}
+IsFitting (Reads count most) = (count ≤ most) × (count ≤ 65536)
+IsFitting (Writes count all failed) = (count ≤ all) × (failed ≡ false → count ≡ all)
+
+-- the effect fits the call
 abbrev pub Fits : IoCall → Effect → Type 0
-Fits IoOpen Opened = Unit {0}
-Fits IoOpen Refused = Unit {0}
-Fits IoClose Shut = Unit {0}
-Fits IoClose Refused = Unit {0}
-Fits (IoReadN n) (Got failed bytes) = (length bytes ≤ n) × (length bytes ≤ 65536)
-Fits (IoReadN n) Refused = Unit {0}
-Fits (IoWrite m) (Wrote count failed) = (count ≤ length m) × (failed ≡ false → count ≡ length m)
-Fits (IoWrite m) Refused = Unit {0}
-Fits call effect = ⊥
+Fits call effect = IsFitting (fitting call effect)
+
+-- the same as a test
+abbrev pub is_fitting : Fitting → Bool
+is_fitting Never = false
+is_fitting Always = true
+is_fitting (Reads count most) = nat_le count most && nat_le count 65536
+is_fitting (Writes count all failed) = nat_le count all && (failed || count == all)
+
+-- the effect fits the call, as a test
+abbrev pub fits : IoCall → Effect → Bool
+fits call effect = is_fitting (fitting call effect)
 
 -- a read or a write failed
 abbrev pub has_failed : Effect → Bool

@@ -38,6 +38,7 @@ let_all_go Unmade = Unmade
 let_all_go Idle = Idle
 let_all_go Closed = Closed
 
+-- the thread, ended
 abbrev pub at_end : Thread → Thread
 at_end thread = record thread { place = Ended }
 

@@ -32,6 +32,7 @@ refuses out is_open IoClose = false
 refuses out is_open (IoReadN n) = out || not is_open || n == 0 || nat_lt 65536 n
 refuses out is_open (IoWrite m) = not out || not is_open
 
+-- the effect is Refused
 abbrev pub is_refused : Effect → Bool
 is_refused Refused = true
 is_refused Opened = false

@@ -11,10 +11,12 @@ use Rattle.p9_word.specs.declared.trail.Seat.{Seat}
 use Rattle.p9_word.specs.declared.trail.Seat.TheVariants.{Proc, Io}
 use Rattle.p9_word.specs.declared.trail.Entry.{Entry}
 
+-- the call that a reply hands out, if it does
 abbrev pub taken_by : Reply → List IoCall
 taken_by (Took call) = call ∷ []
 taken_by reply = []
 
+-- the effect that an event tells, if it does
 abbrev pub done_by : Event → List Effect
 done_by (IoDid effect) = effect ∷ []
 done_by event = []
@@ -32,6 +34,7 @@ calls_at k history = flat_map (λ e. if is_io k e.seat then taken_by e.reply els
 unfoldable pub effects_at : ℕ → List Entry → List Effect
 effects_at k history = flat_map (λ e. if is_io k e.seat then done_by e.event else []) history
 
+-- the items of two lists by pairs, as long as both last
 abbrev pub paired : {A B : Type 0} → List A → List B → List (A × B)
 paired [] ys = []
 paired (x ∷ xs) [] = []

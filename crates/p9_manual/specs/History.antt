@@ -12,7 +12,8 @@ use Rattle.p9_manual.specs.declared.state.Thread.{Thread}
 use Rattle.p9_manual.specs.declared.state.Channel.{Channel}
 use Rattle.p9_manual.specs.declared.state.Place.TheVariants.{New}
 use Rattle.p9_manual.specs.declared.state.Ioproc.TheVariants.{Unmade}
-use Rattle.p9_manual.specs.State.{State, Proc, Holds}
+use Rattle.p9_manual.specs.State.{State, Proc}
+use Rattle.p9_manual.specs.Holds.{Holds}
 use Rattle.p9_manual.specs.Step.{step, makes_entry}
 
 -- the numbers from n on, one for each item
@@ -20,13 +21,16 @@ abbrev pub ids_from : {A : Type 0} → ℕ → List A → List ℕ
 ids_from n [] = []
 ids_from n (x ∷ xs) = n ∷ ids_from (n + 1) xs
 
+-- a thread of the setup, which has not run yet
 abbrev pub new_thread : ThreadSetup → Thread
 new_thread t =
     record { proc_no = t.proc_no; program = t.program; arg = t.arg; group = 0; name = t.name; word = 0; marked = false; place = New }
 
+-- a channel of the setup, open and without elements
 abbrev pub new_channel : ChanSetup → Channel
 new_channel c = record { cap = c.cap; elsize = c.elsize; closed = false; freed = false; elements = [] }
 
+-- a proc place at the start: its word is 0
 abbrev pub new_proc : Proc
 new_proc = record { word = 0; handlers = []; pending = [] }
 

@@ -1,5 +1,5 @@
 -- The requests on ioprocs, and what an ioproc does. ioproc(2).
-use Rattle.std.specs.Prelude.{ℕ, ◌-◌, ◌==◌, ◌&&◌, ◌||◌, Bool, true, false, not, List, [], ◌∷◌, length, Option, Some, None, if◌then◌else◌, nat_lt, nat_le}
+use Rattle.std.specs.Prelude.{ℕ, ◌-◌, ◌||◌, Bool, true, false, not, List, [], ◌∷◌, Option, Some, None, if◌then◌else◌, nat_lt}
 use Rattle.std.specs.List.{list_any}
 use Rattle.p9_word.specs.declared.answer.Answer.TheVariants.{Done, Number, Io as IoAnswered}
 use Rattle.p9_word.specs.declared.answer.IoAnswer.{IoAnswer}
@@ -9,20 +9,20 @@ use Rattle.p9_word.specs.declared.request.Request.TheVariants.{Io as IoRequest}
 use Rattle.p9_word.specs.declared.request.IoReq.{IoReq}
 use Rattle.p9_word.specs.declared.request.IoReq.TheVariants.{IoProc, IoRun, CloseIoProc}
 use Rattle.p9_word.specs.declared.io_call.IoCall.{IoCall}
-use Rattle.p9_word.specs.declared.io_call.IoCall.TheVariants.{IoOpen, IoReadN, IoWrite, IoClose}
 use Rattle.p9_word.specs.declared.io_call.Effect.{Effect}
 use Rattle.p9_word.specs.declared.io_call.Effect.TheVariants.{Opened, Shut, Got, Wrote, Refused}
 use Rattle.p9_word.specs.declared.setup.Setup.{Setup}
 use Rattle.p9_manual.specs.declared.state.Ioproc.{Ioproc}
 use Rattle.p9_manual.specs.declared.state.Ioproc.TheVariants.{Unmade, Idle, Posted, Begun, Closed}
-use Rattle.p9_manual.specs.Effects.{message_length}
+use Rattle.p9_manual.specs.Effects.{fits, message_length}
 use Rattle.p9_manual.specs.Places.{lives}
-use Rattle.p9_manual.specs.State.{State, Outcome, by_id, changed, same, now, bad, waiting, woken, waits_without}
+use Rattle.p9_manual.specs.State.{State, Outcome, by_id, changed, replied, same, now, bad, waiting, wake}
 
+-- the state, with ioproc k so
 abbrev pub with_ioproc : ℕ → Ioproc → State → State
 with_ioproc k io s = record s { ioprocs = changed (λ _. io) s.ioprocs (k - 1) }
 
--- an ioproc is made once
+-- an ioproc is made once. Here and below k names one of the setup's, or none
 abbrev pub make : ℕ → State → Option Ioproc → Outcome
 make k s (Some Unmade) = now (Number k) (with_ioproc k Idle s)
 make k s (Some Idle) = bad s
@@ -51,6 +51,7 @@ close_ioproc k s (Some (Begun t call)) = bad s
 close_ioproc k s (Some Closed) = bad s
 close_ioproc k s None = bad s
 
+-- a request of thread t on ioprocs
 unfoldable pub io_call : Setup → ℕ → IoReq → State → Outcome
 io_call setup t (IoProc k) s = make k s (by_id s.ioprocs k)
 io_call setup t (IoRun k call) s = post_call t k call s (by_id s.ioprocs k)
@@ -63,21 +64,9 @@ take_call k s (Some Closed) = same Over s
 take_call k s (Some (Begun t call)) = if s.over || not (list_any lives s.threads) then same Over s else same Stray s
 take_call k s (Some (Posted t call)) =
     if s.over || not (list_any lives s.threads) then same Over s
-    else record { reply = Took call; state = with_ioproc k (Begun (Some t) call) s }
+    else replied (Took call) (with_ioproc k (Begun (Some t) call) s)
 take_call k s (Some Unmade) = if s.over || not (list_any lives s.threads) then same Over s else same IdleReply s
 take_call k s (Some Idle) = if s.over || not (list_any lives s.threads) then same Over s else same IdleReply s
-
--- the effect fits the call, as a test
-abbrev pub fits : IoCall → Effect → Bool
-fits IoOpen Opened = true
-fits IoOpen Refused = true
-fits IoClose Shut = true
-fits IoClose Refused = true
-fits (IoReadN n) (Got failed bytes) = nat_le (length bytes) n && nat_le (length bytes) 65536
-fits (IoReadN n) Refused = true
-fits (IoWrite m) (Wrote count failed) = nat_le count (length m) && (failed || count == length m)
-fits (IoWrite m) Refused = true
-fits call effect = false
 
 -- what a read that gave these bytes is answered: a Fault where it failed before any byte
 abbrev pub read_answer : Bool → List ℕ → IoAnswer
@@ -96,12 +85,12 @@ effect_answer Refused = answer.Refused
 -- the thread that waits for the call is woken with its answer
 abbrev pub answered : Option ℕ → Effect → State → State
 answered None effect s = s
-answered (Some t) effect s = woken t (IoAnswered (effect_answer effect)) (waits_without t s.waits) s
+answered (Some t) effect s = wake t (IoAnswered (effect_answer effect)) s
 
 -- the effect of a begun call is recorded, and the ioproc is idle
 abbrev pub did_call : ℕ → Effect → State → Option Ioproc → Outcome
 did_call k effect s (Some (Begun t call)) =
-    if fits call effect then record { reply = Noted; state = answered t effect (with_ioproc k Idle s) } else same Stray s
+    if fits call effect then replied Noted (answered t effect (with_ioproc k Idle s)) else same Stray s
 did_call k effect s (Some Unmade) = same Stray s
 did_call k effect s (Some Idle) = same Stray s
 did_call k effect s (Some (Posted t call)) = same Stray s

@@ -8,7 +8,7 @@ use Rattle.p9_manual.specs.declared.state.Place.{Place}
 use Rattle.p9_manual.specs.declared.state.Place.TheVariants.{Running, New, Ready, Waiting, Ended}
 use Rattle.p9_manual.specs.declared.state.Thread.{Thread}
 use Rattle.p9_manual.specs.Places.{lives, lives_in, runs_in, is_of}
-use Rattle.p9_manual.specs.State.{State, Outcome, by_id, pick, placed, same}
+use Rattle.p9_manual.specs.State.{State, Outcome, by_id, pick, placed, replied, same}
 use Rattle.p9_manual.specs.Stuck.{is_stuck}
 
 -- p is one of the setup's places
@@ -19,7 +19,7 @@ is_place setup p = nat_le 1 p && nat_le p setup.places
 abbrev pub is_over : ℕ → State → Bool
 is_over p s = s.over || not (list_any (if nat_le p s.opened then lives_in p else lives) s.threads)
 
--- a new thread begins, and any other one goes on with its answer
+-- a new thread begins, and any other one goes on with its answer. The line holds no thread that is at another place
 abbrev pub turn_reply : ℕ → (ℕ × ℕ × Place) → Reply
 turn_reply t (program, arg, New) = Begin t program arg
 turn_reply t (program, arg, Ready a) = Turn t a
@@ -31,20 +31,21 @@ turn_reply t (program, arg, Ended) = Stray
 abbrev pub started : Thread → (ℕ × ℕ × Place)
 started thread = (thread.program, thread.arg, thread.place)
 
--- t, taken out of the line, runs
+-- t, taken out of the line, runs. The line holds no thread that isn't there
 abbrev pub turn : ℕ → State → Option (ℕ × ℕ × Place) → Outcome
 turn t s None = same Stray s
-turn t s (Some start) = record { reply = turn_reply t start; state = record s { threads = placed t Running s.threads } }
+turn t s (Some start) = replied (turn_reply t start) (record s { threads = placed t Running s.threads })
 
 -- the run is at its end, since it is stuck
 abbrev pub stuck : State → Outcome
-stuck s = record { reply = Stuck; state = record s { over = true } }
+stuck s = replied Stuck (record s { over = true })
 
 -- the first ready thread of the proc runs; where there is none the run is stuck, or there is nothing to do now
 abbrev pub next_of : State → Option (ℕ × List ℕ) → Outcome
 next_of s None = if is_stuck s then stuck s else same Idle s
 next_of s (Some found) = turn found.0 (record s { line = found.1 }) (option_map started (by_id s.threads found.0))
 
+-- proc p asks for its next thread
 unfoldable pub next_event : Setup → ℕ → State → Outcome
 next_event setup p s =
     if not (is_place setup p) then same Stray s

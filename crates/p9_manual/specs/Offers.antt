@@ -1,9 +1,9 @@
 -- What threads offer on channels: the entries of an alt. send, recv and their kin are alts of one entry. thread(2).
-use Rattle.std.specs.Prelude.{ℕ, suc, ◌==◌, ◌&&◌, Bool, true, false, not, List, [], ◌∷◌, Option, Some, None, if◌then◌else◌}
-use Rattle.std.specs.List.{flat_map, list_any}
+use Rattle.std.specs.Prelude.{ℕ, Bool, true, false, List, [], ◌∷◌, Option, Some, None, if◌then◌else◌}
+use Rattle.std.specs.List.{flat_map}
 use Rattle.std.specs.Int.{w64, to_le_bytes}
 use Rattle.p9_word.specs.declared.alt.AltOp.{AltOp}
-use Rattle.p9_word.specs.declared.alt.AltOp.TheVariants.{Snd, Rcv, Nop}
+use Rattle.p9_word.specs.declared.alt.AltOp.TheVariants.{Snd, Rcv}
 use Rattle.p9_word.specs.declared.alt.Slot.{Slot}
 use Rattle.p9_word.specs.declared.alt.Slot.TheVariants.{Null, Give, Keep}
 use Rattle.p9_word.specs.declared.alt.AltEntry.{AltEntry}
@@ -53,6 +53,7 @@ alternation (ask.ChanFree c) = None
 alternation (ask.ChanClose c) = None
 alternation (ask.ChanClosing c) = None
 
+-- the same of any request
 abbrev pub alternation_of : Request → Option Alternation
 alternation_of (ChanRequest r) = alternation r
 alternation_of (ThreadRequest r) = None
@@ -62,62 +63,15 @@ alternation_of (IoRequest r) = None
 abbrev pub party : ℕ → ℕ → Alternation → Party
 party t at a = record { tid = t; at = at; single = a.single; entries = a.entries }
 
+-- the thread, if its request is an alt
 abbrev pub party_with : ℕ → ℕ → Option Alternation → List Party
 party_with t at None = []
 party_with t at (Some a) = party t at a ∷ []
 
+-- the thread that waits, if it waits in an alt
 abbrev pub party_of : Waiter → List Party
 party_of w = party_with w.tid w.at (alternation_of w.request)
 
 -- the threads that wait in an alt, in the order in which they came
 abbrev pub parties : List Waiter → List Party
 parties waits = flat_map party_of waits
-
-abbrev pub is_snd : AltOp → Bool
-is_snd Snd = true
-is_snd Rcv = false
-is_snd Nop = false
-
-abbrev pub is_rcv : AltOp → Bool
-is_rcv Rcv = true
-is_rcv Snd = false
-is_rcv Nop = false
-
-abbrev pub is_nop : AltOp → Bool
-is_nop Nop = true
-is_nop Snd = false
-is_nop Rcv = false
-
--- the entry sends on channel c: one whose err is set doesn't
-abbrev pub sends_to : ℕ → AltEntry → Bool
-sends_to c e = not e.err && (is_snd e.op && e.chan == c)
-
--- it receives there
-abbrev pub receives_from : ℕ → AltEntry → Bool
-receives_from c e = not e.err && (is_rcv e.op && e.chan == c)
-
--- it is an entry on channel c: a no-op isn't
-abbrev pub is_on : ℕ → AltEntry → Bool
-is_on c e = not e.err && (not (is_nop e.op) && e.chan == c)
-
--- the thread has an entry that sends on channel c
-abbrev pub sends_on : ℕ → Party → Bool
-sends_on c w = list_any (sends_to c) w.entries
-
--- one that receives there
-abbrev pub receives_on : ℕ → Party → Bool
-receives_on c w = list_any (receives_from c) w.entries
-
--- one of either sort
-abbrev pub waits_on : ℕ → Party → Bool
-waits_on c w = list_any (is_on c) w.entries
-
--- the number of the first entry that passes, counted from 0
-abbrev pub first_number : (AltEntry → Bool) → List AltEntry → ℕ
-first_number p [] = 0
-first_number p (e ∷ es) = if p e then 0 else suc (first_number p es)
-
--- the slot of the first entry that passes
-abbrev pub first_slot : (AltEntry → Bool) → List AltEntry → Slot
-first_slot p [] = Null
-first_slot p (e ∷ es) = if p e then e.slot else first_slot p es

@@ -6,6 +6,7 @@ use Rattle.p9_manual.specs.declared.state.Thread.{Thread}
 use Rattle.p9_manual.specs.declared.state.Ioproc.{Ioproc}
 use Rattle.p9_manual.specs.declared.state.Ioproc.TheVariants.{Unmade, Idle, Posted, Begun, Closed}
 
+-- the thread runs
 abbrev pub is_running : Place → Bool
 is_running Running = true
 is_running New = false
@@ -13,6 +14,7 @@ is_running (Ready a) = false
 is_running Waiting = false
 is_running Ended = false
 
+-- it stands in the ready line
 abbrev pub is_ready : Place → Bool
 is_ready New = true
 is_ready (Ready a) = true
@@ -20,6 +22,7 @@ is_ready Running = false
 is_ready Waiting = false
 is_ready Ended = false
 
+-- it has ended
 abbrev pub is_ended : Place → Bool
 is_ended Ended = true
 is_ended Running = false
@@ -31,15 +34,19 @@ is_ended Waiting = false
 abbrev pub lives : Thread → Bool
 lives thread = not (is_ended thread.place)
 
+-- the thread runs
 abbrev pub runs : Thread → Bool
 runs thread = is_running thread.place
 
+-- it stands in the ready line
 abbrev pub stands_ready : Thread → Bool
 stands_ready thread = is_ready thread.place
 
+-- it lives, in proc p
 abbrev pub lives_in : ℕ → Thread → Bool
 lives_in p thread = thread.proc_no == p && not (is_ended thread.place)
 
+-- it runs, in proc p
 abbrev pub runs_in : ℕ → Thread → Bool
 runs_in p thread = thread.proc_no == p && is_running thread.place
 

@@ -19,6 +19,7 @@ pub data Life : Type 0 where
   Lives : ℕ → ℕ → List Answer → Life
   Dead : Life
 
+-- a thread that lives is given one more answer
 abbrev pub given_answer : Answer → Life → Life
 given_answer a Unborn = Unborn
 given_answer a (Lives program arg answers) = Lives program arg (answers ++ a ∷ [])
@@ -47,6 +48,7 @@ after_next t (Begin u program arg) life = if t == u then Lives program arg (Done
 after_next t (Turn u a) life = if t == u then given_answer a life else life
 after_next t reply life = life
 
+-- what an event with this reply does to thread t
 abbrev pub after_event : ℕ → Event → Reply → Life → Life
 after_event t (Call u request) reply life = after_call t u request reply life
 after_event t Next reply life = after_next t reply life
@@ -71,6 +73,7 @@ IsAskedBy asks request (Lives program arg answers) = request ≡ asks program ar
 IsAskedBy asks request Unborn = ⊥
 IsAskedBy asks request Dead = ⊥
 
+-- a call is the one that its thread's program makes now
 abbrev pub IsAsked : Asks → (ℕ → Life) → Event → Type 0
 IsAsked asks lives (Call t request) = IsAskedBy asks request (lives t)
 IsAsked asks lives Next = Unit {0}

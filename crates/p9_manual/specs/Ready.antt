@@ -8,13 +8,14 @@ use Rattle.p9_word.specs.declared.alt.Slot.TheVariants.{Null, Give, Keep}
 use Rattle.p9_word.specs.declared.alt.AltEntry.{AltEntry}
 use Rattle.p9_manual.specs.declared.state.Channel.{Channel}
 use Rattle.p9_manual.specs.declared.state.Party.{Party}
-use Rattle.p9_manual.specs.Offers.{is_nop, sends_on, receives_on}
+use Rattle.p9_manual.specs.Entries.{is_nop, sends_on, receives_on}
 use Rattle.p9_manual.specs.State.{by_id}
 
 -- a channel has room for one more element; one of capacity 0 never has
 abbrev pub has_room : Channel → Bool
 has_room chan = nat_lt (length chan.elements) chan.cap
 
+-- a channel has an element
 abbrev pub has_element : Channel → Bool
 has_element chan = nat_lt 0 (length chan.elements)
 
@@ -31,6 +32,7 @@ can_send c chan waits = chan.closed || (has_room chan || (is_unbuffered chan && 
 abbrev pub can_receive : ℕ → Channel → List Party → Bool
 can_receive c chan waits = has_element chan || (chan.closed || (is_unbuffered chan && list_any (sends_on c) waits))
 
+-- an entry with this op on this channel can go on. A no-op never does
 abbrev pub can_go_on : AltOp → ℕ → Option Channel → List Party → Bool
 can_go_on Snd c (Some chan) waits = can_send c chan waits
 can_go_on Rcv c (Some chan) waits = can_receive c chan waits
@@ -73,6 +75,7 @@ is_too_long elsize (Give m) = nat_lt elsize (length m)
 is_too_long elsize Null = false
 is_too_long elsize Keep = false
 
+-- what is given is no longer than an element of this channel, which may be named
 abbrev pub fits_channel : Slot → Option Channel → Bool
 fits_channel slot None = false
 fits_channel slot (Some chan) = not (is_too_long chan.elsize slot)

@@ -15,7 +15,8 @@ use Rattle.p9_manual.specs.declared.state.Ioproc.{Ioproc}
 use Rattle.p9_manual.specs.declared.state.Ioproc.TheVariants.{Posted, Begun}
 use Rattle.p9_manual.specs.Effects.{message_length}
 use Rattle.p9_manual.specs.Standing.{StandOnce, IsRising, times}
-use Rattle.p9_manual.specs.Offers.{alternation, parties, sends_on, receives_on, waits_on}
+use Rattle.p9_manual.specs.Offers.{alternation, parties}
+use Rattle.p9_manual.specs.Entries.{sends_on, receives_on, waits_on}
 use Rattle.p9_manual.specs.Ready.{has_room, has_element}
 use Rattle.p9_manual.specs.State.{State, by_id}
 
@@ -67,6 +68,7 @@ abbrev pub call_in : ℕ → ℕ → Request → List (ℕ × IoCall)
 call_in k t (IoRequest (IoRun j call)) = if j == k then (t, call) ∷ [] else []
 call_in k t request = []
 
+-- the call at ioproc k that a waiting thread made, with the thread
 abbrev pub call_at : ℕ → Waiter → List (ℕ × IoCall)
 call_at k w = call_in k w.tid w.request
 

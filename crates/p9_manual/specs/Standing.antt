@@ -22,6 +22,7 @@ abbrev pub place_in : Option Thread → Place
 place_in None = Ended
 place_in (Some thread) = thread.place
 
+-- where thread t is
 abbrev pub place_of : List Thread → ℕ → Place
 place_of threads t = place_in (by_id threads t)
 

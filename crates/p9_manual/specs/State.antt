@@ -13,18 +13,7 @@ use Rattle.p9_manual.specs.declared.state.Thread.{Thread}
 use Rattle.p9_manual.specs.declared.state.Waiter.{Waiter}
 use Rattle.p9_manual.specs.declared.state.Channel.{Channel}
 use Rattle.p9_manual.specs.declared.state.Ioproc.{Ioproc}
-
--- who holds a reading and writing lock: the writer, or the readers, one as often as it holds it. lock(2)
-pub record RwHold : Type 0 where
-  pub writer : Option ℕ
-  pub readers : List ℕ
-
--- the holder of each Lock and QLock, the holders of each RWLock, and the value of each Ref. lock(2)
-pub record Holds : Type 0 where
-  pub locks : List (Option ℕ)
-  pub qlocks : List (Option ℕ)
-  pub rwlocks : List RwHold
-  pub refs : List ℕ
+use Rattle.p9_manual.specs.Holds.{Holds}
 
 -- a proc place: its word, the handlers of notes (id and prefix) and the pending notes. notify(2)
 pub record Proc : Type 0 where
@@ -48,9 +37,17 @@ pub record State : Type 0 where
   pub entries : ℕ
   pub over : Bool
 
--- a reply, and the state after it
+-- a value that left a channel: the channel, the number of the call that sent it, the thread that received it, and its bytes
+pub record Move : Type 0 where
+  pub chan : ℕ
+  pub from : ℕ
+  pub to : ℕ
+  pub bytes : List ℕ
+
+-- what an event comes to: the reply, the value that left a channel, if one did, and the state after it
 pub record Outcome : Type 0 where
   pub reply : Reply
+  pub moved : Option Move
   pub state : State
 
 -- the item with this id, counted from 1
@@ -63,6 +60,7 @@ changed f [] i = []
 changed f (x ∷ xs) zero = f x ∷ xs
 changed f (x ∷ xs) (suc i) = x ∷ changed f xs i
 
+-- what was picked behind an item that wasn't
 abbrev pub behind : {A : Type 0} → A → Option (A × List A) → Option (A × List A)
 behind x None = None
 behind x (Some found) = Some (found.0, x ∷ found.1)
@@ -72,6 +70,7 @@ abbrev pub pick : {A : Type 0} → (A → Bool) → List A → Option (A × List
 pick p [] = None
 pick p (x ∷ xs) = cond (p x) (Some (x, xs)) (behind x (pick p xs))
 
+-- the thread, at this place
 abbrev pub at_place : Place → Thread → Thread
 at_place place thread = record thread { place = place }
 
@@ -87,13 +86,17 @@ waits_without t waits = filter (λ w. not (w.tid == t)) waits
 abbrev pub readied : ℕ → Answer → State → State
 readied t a s = record s { threads = placed t (Ready a) s.threads; line = s.line ++ t ∷ [] }
 
+-- a reply with the state after it, where no value leaves a channel
+abbrev pub replied : Reply → State → Outcome
+replied r s = record { reply = r; moved = None; state = s }
+
 -- a reply that changes nothing
 abbrev pub same : Reply → State → Outcome
-same r s = record { reply = r; state = s }
+same r s = replied r s
 
 -- an answer at once: the caller runs on
 abbrev pub now : Answer → State → Outcome
-now a s = record { reply = Now a; state = s }
+now a s = replied (Now a) s
 
 -- a request that names what isn't there, or asks for what can't be: nothing changes
 abbrev pub bad : State → Outcome
@@ -101,13 +104,14 @@ bad s = now Bad s
 
 -- a relinquishing request that is done at once: the caller stands last in the line with its answer
 abbrev pub done : ℕ → Answer → State → Outcome
-done t a s = record { reply = Waits; state = readied t a s }
+done t a s = replied Waits (readied t a s)
 
 -- the caller waits with its whole request and the place of its call
 abbrev pub waiting : ℕ → Request → State → Outcome
 waiting t r s =
-    record { reply = Waits; state = record s { threads = placed t Waiting s.threads; waits = s.waits ++ record { tid = t; request = r; at = s.entries } ∷ [] } }
+    replied Waits (record s { threads = placed t Waiting s.threads; waits = s.waits ++ record { tid = t; request = r; at = s.entries } ∷ [] })
 
--- t, whose wait is taken out, is ready with an answer; the others wait on
-abbrev pub woken : ℕ → Answer → List Waiter → State → State
-woken t a others s = record (readied t a s) { waits = others }
+-- a thread that waits goes on: it leaves the waits, and is ready with an answer, last in the line. Alts, closed channels and
+-- ioprocs all wake by this; so the threads that an event makes ready stand in the line as woken, then new, then the caller
+abbrev pub wake : ℕ → Answer → State → State
+wake t a s = record (readied t a s) { waits = waits_without t s.waits }

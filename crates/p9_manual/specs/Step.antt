@@ -51,9 +51,16 @@ makes_entry Idle = false
 makes_entry Over = false
 makes_entry Stray = false
 
--- the number of entries grows by one where an entry is made
-abbrev pub counted : ℕ → Outcome → Outcome
-counted n o = record o { state = record o.state { entries = if makes_entry o.reply then n + 1 else n } }
+-- the state after an event in state s, whose outcome has state n: an event without an entry changes nothing, and any other
+-- makes the entries one more
+abbrev pub settled : Bool → State → State → State
+settled true s n = record n { entries = s.entries + 1 }
+settled false s n = s
 
+-- an outcome, once its entry is counted
+abbrev pub counted : State → Outcome → Outcome
+counted s o = record o { state = settled (makes_entry o.reply) s o.state }
+
+-- one event
 unfoldable pub step : Setup → Seat → Event → State → Outcome
-step setup seat event s = counted s.entries (outcome setup seat event s)
+step setup seat event s = counted s (outcome setup seat event s)

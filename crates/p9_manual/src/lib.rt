@@ -1,10 +1,9 @@
-//! The manual's machine: definitions and laws, and no code that runs.
+//! The manual's machine: definitions alone, and no code that runs.
 //!
 //! `specs/Step.antt` is the page to begin with. The types of a state's parts are declared here as plain data, so
-//! that definitions and code speak of the same things.
+//! that definitions and code speak of the same things. What holds of every history is in `p9_laws`.
 #![tactic(auto)]
 
-pub mod laws;
 mod state;
 
 pub use state::{Channel, Element, Ioproc, Party, Place, Thread, Waiter};

@@ -1,29 +1,29 @@
 -- What the run of a copy's text comes to, by how its files were opened and closed.
-use Rattle.std.specs.Prelude.{ℕ, ◌≡◌, ◌≢◌, ◌≤◌, ◌<◌, ◌+◌, ◌||◌, ◌++◌, ◌↔◌, Bool, true, false, List, [], slice_index_or, zero, suc, Option, Some, None, Result, Ok, Err, MatchBool, MatchResult, OnOk, if◌then◌else◌}
+use Rattle.std.specs.Prelude.{ℕ, ◌≡◌, ◌≢◌, ◌≤◌, ◌+◌, ◌||◌, ◌++◌, ◌↔◌, Bool, true, false, List, [], Option, Some, None, Result, Ok, Err, MatchBool, MatchResult, OnOk, if◌then◌else◌}
 use Rattle.std.specs.Io.KnownBytes.{Consumes, Appends}
 use Rattle.std.proofs.Common.{sym, ◌∙◌, ap, subst, refl, inl, inr, arith}
 use Rattle.p9_word.specs.declared.io_call.IoCall.{IoCall}
 use Rattle.p9_word.specs.declared.io_call.Effect.{Effect}
 use Rattle.p9_word.specs.declared.memory.NoMemory.{NoMemory}
-use Rattle.p9_word.specs.declared.setup.ChanSetup.{ChanSetup}
 use Rattle.p9_word.specs.declared.setup.Setup.{Setup}
 use Rattle.p9_word.specs.declared.trail.Entry.{Entry}
 use Rattle.p9_word.specs.Setup.{IsValid}
 use Rattle.p9_manual.specs.Files.{written}
-use Rattle.p9_manual.specs.Ending.{EndsOver, HasEnded, ends_stuck}
+use Rattle.p9_laws.specs.Ending.{EndsOver, HasEnded, ends_stuck}
 use Rattle.p9_manual.specs.History.{IsLegal}
-use Rattle.p9_manual.specs.RunReplies.{reply_at}
+use Rattle.p9_laws.specs.RunReplies.{reply_at}
 use Rattle.p9_manual.specs.FilesInHistory.{services_at}
 use Rattle.p9_outside.specs.declared.files.FilesFault.{FilesFault}
 use Rattle.p9_outside.specs.declared.files.FilesFault.TheVariants.{Failed, Memory}
 use Rattle.p9_machine.specs.Plain.{IsPlain}
 use Rattle.p9_outside.specs.Causes.{RoseBy, Rose}
 use Rattle.p9_outside.specs.Contents.{Told, Stay, Opens, IsFresh, Puts}
+use Rattle.p9_outside.specs.FileRuns.{UntoldAreFull}
 use Rattle.p9_outside.specs.Reading.{FullReads}
-use Rattle.p9_run.proofs.FileRuns.{full_untold}
 use Rattle.p9_run.proofs.Lifts.{stay_on}
 use Rattle.p9_run.proofs.Runs.{calls_none, history_none}
-use Rattle.p9_run.specs.CopyEnd.{GivenFrom, IsFrontOf, IsGiven, told_at, Holds, RunsNothing, RunsWhole, TellsFaults, CopyEnds, CopyStops, calls_failed, is_open, IsInFault, IsOutFault, IsCopyHistory, failed_at, unopened, run_end, IsFinished, IsStopped}
+use Rattle.p9_run.specs.CopyEnd.{GivenFrom, IsFrontOf, IsGiven, told_at, Holds, RunsNothing, RunsWhole, TellsFaults, CopyEnds, calls_failed, is_open, IsInFault, IsOutFault, IsCopyHistory, failed_at}
+use Rattle.p9_run.specs.CopyFinish.{EndsOrStops, unopened, run_end, IsFinished, IsStopped}
 use Rattle.p9_run.specs.CopyPrograms.{copy_asks}
 use Rattle.p9_run.specs.CopySetup.{copy_setup}
 use Rattle.p9_run.specs.Moves.{Moves}
@@ -83,11 +83,6 @@ not_opened_out told told' calls calls' from to stay later rose =
       contents = record { history_is = refl; contents = stay };
     }
 
--- what holds of an end, or where memory was wanted
-abbrev pub EndsOrStops : Told → Told → ℕ → ℕ → List ℕ → List ℕ → List Entry → Result RunEnd NoMemory → Type 0
-EndsOrStops told told' calls calls' from to history end =
-    MatchResult end (λ e. CopyEnds told told' calls calls' from to history e) (λ _. CopyStops told told' from to history)
-
 unopened_ends : (fault : FilesFault) (input : Bool) (told told' : Told) (calls calls' : ℕ) (from to : List ℕ) → Stay told told' → calls ≤ calls' → (fault ≡ Failed → Rose calls calls') → EndsOrStops told told' calls calls' from to [] (unopened fault input)
 unopened_ends Failed true told told' calls calls' from to stay later rose = not_opened_in told told' calls calls' from to stay later (rose refl)
 unopened_ends Failed false told told' calls calls' from to stay later rose = not_opened_out told told' calls calls' from to stay later (rose refl)
@@ -113,10 +108,10 @@ given_opened (Some f) path None m bs opens takes = absurd opens
 given_opened (Some f) path (Some xs) None bs opens takes = absurd takes
 given_opened (Some f) path (Some xs) (Some ys) bs opens takes = front_of (f path) xs ys bs opens takes
 
-full_opened : (a : Told) (path : List ℕ) (l : Option (List ℕ)) (services : List (IoCall × Effect)) → Opens a path l → FullReads false l services → FullReads false (told_at a path) services
-full_opened None path l services opens full = full_untold false services
-full_opened (Some f) path None services opens full = absurd opens
-full_opened (Some f) path (Some xs) services opens full = rw opens full
+full_opened : (untold : UntoldAreFull) (a : Told) (path : List ℕ) (l : Option (List ℕ)) (services : List (IoCall × Effect)) → Opens a path l → FullReads false l services → FullReads false (told_at a path) services
+full_opened untold None path l services opens full = untold false services
+full_opened untold (Some f) path None services opens full = absurd opens
+full_opened untold (Some f) path (Some xs) services opens full = rw opens full
 
 holds_after : (a b c d : Told) (path : List ℕ) (h k : Option (List ℕ)) (bs : List ℕ) → Stay a b → Stay b c → IsFresh b h → Appends h k bs → Puts c d path k → Holds a d path bs
 holds_after None b c d path h k bs s t fresh takes puts = tt
@@ -193,12 +188,12 @@ not_none : (write : Bool) → out_line write (Some Close) ≢ None
 not_none true = λ e. cc
 not_none false = λ e. cc
 
-module _ (told a b c : Told) (x y z w : ℕ) (from to : List ℕ) (left left' held held' : Option (List ℕ)) (reads reads' writes writes' : ℕ) (history : List Entry) (first : Stay told a) (second : Stay a b) (later : x ≤ y) (later' : y ≤ z) (opens : Opens told from left) (fresh : IsFresh a held) (moves : Moves history left left' held held' reads reads' writes writes') where
+module _ (untold : UntoldAreFull) (told a b c : Told) (x y z w : ℕ) (from to : List ℕ) (left left' held held' : Option (List ℕ)) (reads reads' writes writes' : ℕ) (history : List Entry) (first : Stay told a) (second : Stay a b) (later : x ≤ y) (later' : y ≤ z) (opens : Opens told from left) (fresh : IsFresh a held) (moves : Moves history left left' held held' reads reads' writes writes') where
   stay_ab : Stay told b
   stay_ab = stay_on told a b first second
 
   given_was : IsGiven told from history
-  given_was = record { front = given_opened told from left left' _ opens moves.given; full = full_opened told from left (services_at 1 history) opens moves.full }
+  given_was = record { front = given_opened told from left left' _ opens moves.given; full = full_opened untold told from left (services_at 1 history) opens moves.full }
 
   holds_put : Puts b c to held' → Holds told c to (written (services_at 2 history))
   holds_put puts = holds_after told a b c to held held' _ first second fresh moves.written puts

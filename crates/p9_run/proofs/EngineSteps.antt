@@ -15,10 +15,10 @@ use Rattle.p9_word.specs.declared.trail.Seat.TheVariants.{Proc, Io}
 use Rattle.p9_manual.specs.declared.state.Ioproc.{Ioproc}
 use Rattle.p9_manual.specs.History.{with_entry, IsLegal}
 use Rattle.p9_manual.specs.State.{changed}
-use Rattle.p9_manual.specs.IoReplies.{ioproc_after, IsBegun, IsPosted, TakenBegun, TakeReplies, IsTakeReply, FittingNoted}
+use Rattle.p9_laws.specs.IoReplies.{ioproc_after, IsBegun, IsPosted, TakenBegun, TakeReplies, IsTakeReply, FittingNoted}
 use Rattle.p9_manual.specs.History.{state_after}
-use Rattle.p9_manual.specs.RunReplies.{reply_at, RunsAfter, AnsweredRunOn}
-use Rattle.p9_machine.specs.Calls.{begun_call}
+use Rattle.p9_laws.specs.RunReplies.{reply_at, RunsAfter, AnsweredRunOn}
+use Rattle.p9_io.specs.Calls.{begun_call}
 use Rattle.p9_machine.specs.Shown.{rooms_after}
 use Rattle.p9_run.specs.Takes.{MayTell, noted}
 

@@ -7,9 +7,6 @@ pub mod Paired
 pub mod Slots
 pub mod Turns
 pub mod Untouched
-pub mod Reached
-pub mod Streams
-pub mod FileRuns
 pub mod Services
 pub mod Devices
 pub mod Runs

@@ -7,8 +7,8 @@ use Rattle.p9_word.specs.declared.io_call.Effect.{Effect}
 use Rattle.p9_word.specs.declared.trail.Entry.{Entry}
 use Rattle.p9_manual.specs.FilesInHistory.{services_at}
 use Rattle.p9_outside.specs.Contents.{Told, Stay}
+use Rattle.p9_outside.specs.FileRuns.{UntoldAreFull}
 use Rattle.p9_outside.specs.Reading.{FullReads}
-use Rattle.p9_run.proofs.FileRuns.{full_untold}
 use Rattle.p9_run.specs.CommandLine.{command}
 use Rattle.p9_run.specs.CopyEnd.{GivenFrom, IsFrontOf, IsGiven, told_at, Holds, RunsNothing, RunsWhole, TellsFaults, CopyEnds, CopyStops, is_open}
 use Rattle.p9_run.specs.FileText.{IsAccepted, IsReadFrom, IsCopyFile, IsOtherFile}
@@ -55,14 +55,14 @@ front_from None b path bs s g = tt
 front_from (Some f) None path bs s g = absurd s
 front_from (Some f) (Some h) path bs s g = subst (λ (o : Option (List ℕ)). IsFrontOf bs o) (s path) g
 
-full_from : (a b : Told) (path : List ℕ) (services : List (IoCall × Effect)) → Stay a b → FullReads false (told_at b path) services → FullReads false (told_at a path) services
-full_from None b path services s full = full_untold false services
-full_from (Some f) None path services s full = absurd s
-full_from (Some f) (Some h) path services s full = subst (λ (o : Option (List ℕ)). FullReads false o services) (s path) full
+full_from : (untold : UntoldAreFull) (a b : Told) (path : List ℕ) (services : List (IoCall × Effect)) → Stay a b → FullReads false (told_at b path) services → FullReads false (told_at a path) services
+full_from untold None b path services s full = untold false services
+full_from untold (Some f) None path services s full = absurd s
+full_from untold (Some f) (Some h) path services s full = subst (λ (o : Option (List ℕ)). FullReads false o services) (s path) full
 
-given_from : (a b : Told) (path : List ℕ) (history : List Entry) → Stay a b → IsGiven b path history → IsGiven a path history
-given_from a b path history s g =
-    record { front = front_from a b path _ s g.front; full = full_from a b path (services_at 1 history) s g.full }
+given_from : (untold : UntoldAreFull) (a b : Told) (path : List ℕ) (history : List Entry) → Stay a b → IsGiven b path history → IsGiven a path history
+given_from untold a b path history s g =
+    record { front = front_from a b path _ s g.front; full = full_from untold a b path (services_at 1 history) s g.full }
 
 holds_from : (a b c : Told) (path bs : List ℕ) → Stay a b → Holds b c path bs → Holds a c path bs
 holds_from None b c path bs s h = tt
@@ -100,27 +100,27 @@ faults_from end history x y z later t =
       write = t.write;
     }
 
-ends_from : (a b c : Told) (x y z : ℕ) (from to : List ℕ) (history : List Entry) (end : RunEnd) → Stay a b → x ≤ y → CopyEnds b c y z from to history end → CopyEnds a c x z from to history end
-ends_from a b c x y z from to history end s later e =
+ends_from : (untold : UntoldAreFull) (a b c : Told) (x y z : ℕ) (from to : List ℕ) (history : List Entry) (end : RunEnd) → Stay a b → x ≤ y → CopyEnds b c y z from to history end → CopyEnds a c x z from to history end
+ends_from untold a b c x y z from to history end s later e =
     record {
       faults = faults_from end history x y z later e.faults;
-      given_is = given_from a b from history s e.given_is;
+      given_is = given_from untold a b from history s e.given_is;
       contents = run_from (is_open end.input || is_open end.output) a b c to history end.output s e.contents;
     }
 
-stops_from : (a b c : Told) (from to : List ℕ) (history : List Entry) → Stay a b → CopyStops b c from to history → CopyStops a c from to history
-stops_from a b c from to history s e =
-    record { given_is = given_from a b from history s e.given_is; contents = either_from a b c to _ s e.contents }
+stops_from : (untold : UntoldAreFull) (a b c : Told) (from to : List ℕ) (history : List Entry) → Stay a b → CopyStops b c from to history → CopyStops a c from to history
+stops_from untold a b c from to history s e =
+    record { given_is = given_from untold a b from history s e.given_is; contents = either_from a b c to _ s e.contents }
 
 -- the text of a copy was run
-pub ran_copy : (words : List (List ℕ)) (a b c : Told) (x y z : ℕ) (history : List Entry) (end : RunEnd) (file bytes from to : List ℕ) → command words ≡ Some file → IsReadFrom a file bytes → IsAccepted bytes from to → Stay a b → x ≤ y → CopyEnds b c y z from to history end → RanCopy words a c x z history end from to
-ran_copy words a b c x y z history end file bytes from to is r accepted s later e =
-    record { file = file; words_are = is; text = copy_file a file bytes from to r accepted; ends = ends_from a b c x y z from to history end s later e }
+pub ran_copy : (untold : UntoldAreFull) (words : List (List ℕ)) (a b c : Told) (x y z : ℕ) (history : List Entry) (end : RunEnd) (file bytes from to : List ℕ) → command words ≡ Some file → IsReadFrom a file bytes → IsAccepted bytes from to → Stay a b → x ≤ y → CopyEnds b c y z from to history end → RanCopy words a c x z history end from to
+ran_copy untold words a b c x y z history end file bytes from to is r accepted s later e =
+    record { file = file; words_are = is; text = copy_file a file bytes from to r accepted; ends = ends_from untold a b c x y z from to history end s later e }
 
 -- it was run, and memory was wanted
-pub stopped_copy : (words : List (List ℕ)) (a b c : Told) (history : List Entry) (file bytes from to : List ℕ) → command words ≡ Some file → IsReadFrom a file bytes → IsAccepted bytes from to → Stay a b → CopyStops b c from to history → RunsNothing a c history ⊎ StoppedCopy words a c history
-stopped_copy words a b c history file bytes from to is r accepted s e =
-    inr (record { file = file; from = from; to = to; words_are = is; text = copy_file a file bytes from to r accepted; stops = stops_from a b c from to history s e })
+pub stopped_copy : (untold : UntoldAreFull) (words : List (List ℕ)) (a b c : Told) (history : List Entry) (file bytes from to : List ℕ) → command words ≡ Some file → IsReadFrom a file bytes → IsAccepted bytes from to → Stay a b → CopyStops b c from to history → RunsNothing a c history ⊎ StoppedCopy words a c history
+stopped_copy untold words a b c history file bytes from to is r accepted s e =
+    inr (record { file = file; from = from; to = to; words_are = is; text = copy_file a file bytes from to r accepted; stops = stops_from untold a b c from to history s e })
 
 -- FILE was read, and isn't the text of a copy
 pub not_yet : (words : List (List ℕ)) (a b : Told) (x y : ℕ) (history : List Entry) (end : CommandEnd) (file bytes : List ℕ) → command words ≡ Some file → IsReadFrom a file bytes → ((from to : List ℕ) → ¬ (IsAccepted bytes from to)) → Stay a b → end ≡ NotYet file → history ≡ [] → CameTo end words a b x y history
@@ -128,14 +128,14 @@ not_yet words a b x y history end file bytes is r other s is_end none =
     rw is_end (record { words_are = is; text = other_file a file bytes r other; nothing = record { history_is = none; contents = s } })
 
 -- its text was run, and came to this
-pub ran_text : (words : List (List ℕ)) (a b c : Told) (x y z : ℕ) (history : List Entry) (end : CommandEnd) (file bytes from to : List ℕ) → command words ≡ Some file → IsReadFrom a file bytes → IsAccepted bytes from to → Stay a b → x ≤ y → IsCopyCame end b c y z from to history → CameTo end words a c x z history
-ran_text words a b c x y z history (Ran e f t) file bytes from to is r accepted s later came =
-    rw (came.from_is, came.to_is) (ran_copy words a b c x y z history e file bytes from to is r accepted s later came.ends)
-ran_text words a b c x y z history Memory file bytes from to is r accepted s later came =
-    stopped_copy words a b c history file bytes from to is r accepted s came
-ran_text words a b c x y z history Usage file bytes from to is r accepted s later came = absurd came
-ran_text words a b c x y z history (NotYet f) file bytes from to is r accepted s later came = absurd came
-ran_text words a b c x y z history (FileFailed f fault) file bytes from to is r accepted s later came = absurd came
+pub ran_text : (untold : UntoldAreFull) (words : List (List ℕ)) (a b c : Told) (x y z : ℕ) (history : List Entry) (end : CommandEnd) (file bytes from to : List ℕ) → command words ≡ Some file → IsReadFrom a file bytes → IsAccepted bytes from to → Stay a b → x ≤ y → IsCopyCame end b c y z from to history → CameTo end words a c x z history
+ran_text untold words a b c x y z history (Ran e f t) file bytes from to is r accepted s later came =
+    rw (came.from_is, came.to_is) (ran_copy untold words a b c x y z history e file bytes from to is r accepted s later came.ends)
+ran_text untold words a b c x y z history Memory file bytes from to is r accepted s later came =
+    stopped_copy untold words a b c history file bytes from to is r accepted s came
+ran_text untold words a b c x y z history Usage file bytes from to is r accepted s later came = absurd came
+ran_text untold words a b c x y z history (NotYet f) file bytes from to is r accepted s later came = absurd came
+ran_text untold words a b c x y z history (FileFailed f fault) file bytes from to is r accepted s later came = absurd came
 
 stopped_by : (unopened : Bool) (words : List (List ℕ)) (a c : Told) (x z : ℕ) (history : List Entry) (end : RunEnd) (from to : List ℕ) → RanCopy words a c x z history end from to → MatchBool unopened (RunsNothing a c history) (RunsWhole a c to history end.output) → RunsNothing a c history ⊎ StoppedCopy words a c history
 stopped_by true words a c x z history end from to r nothing = inl nothing

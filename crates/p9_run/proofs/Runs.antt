@@ -1,6 +1,7 @@
 -- A run that has done nothing yet, and what a run over two files comes to.
 use Rattle.std.proofs.Common.{◌≡◌, ℕ, ◌+◌, ◌-◌, ◌<◌, take, get_or, Bool, true, false, List, [], ◌∷◌, ◌++◌, refl, ap, subst, arith}
 use Rattle.std.specs.Prelude.{Option, Some}
+use Rattle.std.specs.Io.KnownBytes.{Consumes, Appends}
 use Rattle.p9_word.specs.declared.answer.Answer.{Answer}
 use Rattle.p9_word.specs.declared.io_call.IoCall.{IoCall}
 use Rattle.p9_word.specs.declared.io_call.Effect.{Effect}
@@ -16,8 +17,7 @@ use Rattle.p9_manual.specs.Files.{At, TreatsAsFile, at_first}
 use Rattle.p9_outside.specs.Reading.{reader_at, FullReads}
 use Rattle.p9_outside.specs.Writing.{writer_at}
 use Rattle.p9_outside.specs.FileServices.{FileServes}
-use Rattle.p9_run.proofs.FileRuns.{reader_is_file, reader_gives, reader_tells, reader_full, rest_self, writer_is_file, writer_takes, writer_tells, stays_in, stays_out}
-use Rattle.p9_run.proofs.Streams.{consumes_none, appends_none}
+use Rattle.p9_outside.specs.FileRuns.{FilesRun}
 use Rattle.p9_run.specs.Stands.{Between}
 use Rattle.p9_run.specs.Services.{Serves, AllServe}
 use Rattle.p9_run.specs.Moves.{RunsOnFiles, Moves}
@@ -59,20 +59,17 @@ history_none asks =
       write_done = rw (calls_none, effects_none) refl;
     }
 
-pub moves_none : (left held : Option (List ℕ)) (faults counts : ℕ) → Moves [] left left held held faults faults counts counts
-moves_none left held faults counts =
+pub moves_none : (none : (bytes : Option (List ℕ)) → Consumes bytes bytes [] × Appends bytes bytes []) (left held : Option (List ℕ)) (faults counts : ℕ) → Moves [] left left held held faults faults counts counts
+moves_none none left held faults counts =
     record {
-      given = rw calls_none (consumes_none left);
+      given = rw calls_none (none left).0;
       full = rw calls_none tt;
-      written = rw calls_none (appends_none held);
+      written = rw calls_none (none held).1;
       read_faults = rw calls_none (omega arith, omega arith);
       write_faults = rw calls_none (omega arith, omega arith);
     }
 
-two : {D : Type 0} {d e x y : D} → d ≡ x → e ≡ y → ◌≡◌ {A = List D} (d ∷ e ∷ []) (x ∷ y ∷ [])
-two p q = cc
-
-module _ {S K : Type 0} (left : S → Option (List ℕ)) (faults : S → ℕ) (held : K → Option (List ℕ)) (counts : K → ℕ) where
+module _ {S K : Type 0} (left : S → Option (List ℕ)) (faults : S → ℕ) (held : K → Option (List ℕ)) (counts : K → ℕ) (law : FilesRun left faults held counts) where
   -- what the two devices are after a run
   pub record RanFiles (asks : Asks) (history : List Entry) (source : S) (sink : K) (devices : List (FileDevice S K)) : Type 0 where
     pub reader : ReadDevice S
@@ -85,26 +82,28 @@ module _ {S K : Type 0} (left : S → Option (List ℕ)) (faults : S → ℕ) (h
   ran_files asks history reader writer [] runs a b all = absurd all
   ran_files asks history reader writer (d ∷ []) runs a b all = absurd all.1
   ran_files asks history reader writer (d ∷ e ∷ f ∷ devices) runs a b all = absurd all.1.1
-  ran_files asks history reader writer (d ∷ e ∷ []) runs a b all =
-      let in_now = stays_in left faults held counts reader d (services_at 1 history) all.0.reached in
-      let out_now = stays_out left faults held counts writer e (services_at 2 history) all.1.0.reached in
+  ran_files asks history reader writer (Out d ∷ e ∷ []) runs a b all = absurd (law (In reader) (services_at 1 history) (Out d) all.0.reached)
+  ran_files asks history reader writer (In d ∷ In e ∷ []) runs a b all = absurd (law (Out writer) (services_at 2 history) (In e) all.1.0.reached)
+  ran_files asks history reader writer (In d ∷ Out e ∷ []) runs a b all =
+      let read = law (In reader) (services_at 1 history) (In d) all.0.reached in
+      let wrote = law (Out writer) (services_at 2 history) (Out e) all.1.0.reached in
       record {
-        reader = in_now.0;
-        writer = out_now.0;
-        devices_are = two in_now.1 out_now.1;
+        reader = d;
+        writer = e;
+        devices_are = refl;
         history_is = record {
           runs = runs;
-          reads = subst (λ (at : At). TreatsAsFile false at (services_at 1 history)) a (reader_is_file left faults reader in_now.0 (services_at 1 history) in_now.2);
-          writes = subst (λ (at : At). TreatsAsFile true at (services_at 2 history)) b (writer_is_file held counts writer out_now.0 (services_at 2 history) out_now.2);
+          reads = subst (λ (at : At). TreatsAsFile false at (services_at 1 history)) a read.file;
+          writes = subst (λ (at : At). TreatsAsFile true at (services_at 2 history)) b wrote.file;
           read_done = all.0.is_done;
           write_done = all.1.0.is_done;
         };
         moves = record {
-          given = reader_gives left faults reader in_now.0 (services_at 1 history) in_now.2;
-          full = subst (λ (b : Bool). FullReads b (left reader.source) (services_at 1 history)) (ap (λ (at : At). at.failed) a) (reader_full left faults reader in_now.0 (services_at 1 history) (left reader.source) (rest_self (left reader.source)) in_now.2);
-          written = writer_takes held counts writer out_now.0 (services_at 2 history) out_now.2;
-          read_faults = reader_tells left faults reader in_now.0 (services_at 1 history) in_now.2;
-          write_faults = writer_tells held counts writer out_now.0 (services_at 2 history) out_now.2;
+          given = read.given;
+          full = subst (λ (b : Bool). FullReads b (left reader.source) (services_at 1 history)) (ap (λ (at : At). at.failed) a) read.full;
+          written = wrote.written;
+          read_faults = read.tells;
+          write_faults = wrote.tells;
         };
       }
 

@@ -4,11 +4,11 @@ use Rattle.p9_word.specs.declared.io_call.IoCall.{IoCall}
 use Rattle.p9_word.specs.declared.io_call.Effect.{Effect}
 use Rattle.p9_word.specs.declared.trail.Entry.{Entry}
 use Rattle.p9_manual.specs.FilesInHistory.{calls_at, effects_at, services_at}
+use Rattle.p9_outside.specs.Reached.{LeadOn}
 use Rattle.p9_run.specs.Services.{TouchesOnly, Serves}
 use Rattle.p9_run.specs.Takes.{took, noted}
 use Rattle.p9_run.proofs.Lives.{life-push, runs-push, same_id, other_id}
 use Rattle.p9_run.proofs.Paired.{calls-push, effects-push, paired-push}
-use Rattle.p9_run.proofs.Reached.{reached-push}
 
 abbrev pub with_service : ℕ → IoCall → Effect → List Entry → List Entry
 with_service k call effect H = (H ++ took k call ∷ []) ++ noted k effect ∷ []
@@ -38,10 +38,10 @@ calls_now k call effect H = rw (calls-push, same_id, append-nil, calls-push, sam
 effects_now : (k : ℕ) (call : IoCall) (effect : Effect) (H : List Entry) → effects_at k (with_service k call effect H) ≡ effects_at k H ++ effect ∷ []
 effects_now k call effect H = rw (effects-push, same_id, effects-push, same_id, append-nil) refl
 
-pub serves_on : {D : Type 0} (serves : D → IoCall → Effect → D → Type 0) (k : ℕ) (call : IoCall) (effect : Effect) (H : List Entry) (first middle last : D) → Serves serves k H first middle → serves middle call effect last → Serves serves k (with_service k call effect H) first last
-serves_on serves k call effect H first middle last before step =
+pub serves_on : {D : Type 0} (serves : D → IoCall → Effect → D → Type 0) (lead : LeadOn serves) (k : ℕ) (call : IoCall) (effect : Effect) (H : List Entry) (first middle last : D) → Serves serves k H first middle → serves middle call effect last → Serves serves k (with_service k call effect H) first last
+serves_on serves lead k call effect H first middle last before step =
     let same : length (calls_at k H) ≡ length (effects_at k H) = before.is_done in
     record {
       is_done = rw (calls_now, effects_now, length-append, length-append) (ap (λ n. n + 1) before.is_done);
-      reached = rw (calls_now, effects_now, paired-push) (reached-push serves first middle last (services_at k H) call effect before.reached step);
+      reached = rw (calls_now, effects_now, paired-push) (lead first middle last (services_at k H) call effect before.reached step);
     }

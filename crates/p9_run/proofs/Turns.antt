@@ -15,7 +15,7 @@ use Rattle.p9_word.specs.declared.trail.Entry.{Entry}
 use Rattle.p9_manual.specs.Programs.{Life, Unborn, Lives, Dead, life, life_after, given_answer, laid_down, ends_all, Asks, IsAskedBy, RunsPrograms}
 use Rattle.p9_run.proofs.Lives.{life-push, runs-push, same_id, other_id}
 use Rattle.p9_run.specs.Slots.{slot}
-use Rattle.p9_manual.specs.RunReplies.{IsLiving}
+use Rattle.p9_laws.specs.RunReplies.{IsLiving}
 use Rattle.p9_manual.specs.Step.{makes_entry}
 use Rattle.p9_manual.specs.History.{with_entry}
 use Rattle.p9_run.specs.Untouched.{TouchesNoThread}

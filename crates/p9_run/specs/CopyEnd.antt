@@ -1,5 +1,5 @@
 -- What the run of a copy's text leaves, tells and was given.
-use Rattle.std.specs.Prelude.{ℕ, ◌≡◌, ◌≢◌, ◌⊎◌, ◌&&◌, ◌||◌, ◌↔◌, ◌+◌, Bool, true, false, List, [], ◌++◌, Option, Some, None, Result, Ok, Err, MatchBool, MatchResult, ◌≤◌, ⊤, if◌then◌else◌}
+use Rattle.std.specs.Prelude.{ℕ, ◌≡◌, ◌≢◌, ◌⊎◌, ◌&&◌, ◌||◌, ◌↔◌, ◌+◌, Bool, true, false, List, [], ◌++◌, Option, Some, None, MatchBool, ⊤}
 use Rattle.std.specs.List.{list_any}
 use Rattle.p9_word.specs.declared.trail.Entry.{Entry}
 use Rattle.p9_word.specs.declared.trail.Event.{Event}
@@ -9,12 +9,9 @@ use Rattle.p9_manual.specs.Effects.{has_failed}
 use Rattle.p9_manual.specs.Files.{given, joined, written}
 use Rattle.p9_manual.specs.FilesInHistory.{services_at, is_io}
 use Rattle.p9_manual.specs.History.{IsLegal}
-use Rattle.p9_manual.specs.Ending.{HasEnded, ends_stuck}
-use Rattle.p9_word.specs.declared.memory.NoMemory.{NoMemory}
-use Rattle.p9_outside.specs.declared.files.FilesFault.{FilesFault}
-use Rattle.p9_outside.specs.declared.files.FilesFault.TheVariants.{Failed, Memory}
-use Rattle.p9_outside.specs.Causes.{Rose, RoseBy}
-use Rattle.p9_outside.specs.Contents.{Told, Stay, Puts}
+use Rattle.p9_laws.specs.Ending.{HasEnded, ends_stuck}
+use Rattle.p9_outside.specs.Causes.{RoseBy}
+use Rattle.p9_outside.specs.Contents.{Told, Stay}
 use Rattle.p9_outside.specs.Reading.{FullReads}
 use Rattle.p9_run.specs.CopyPrograms.{copy_asks}
 use Rattle.p9_run.specs.CopySetup.{copy_setup}
@@ -131,40 +128,3 @@ pub record CopyEnds (told told' : Told) (calls calls' : ℕ) (from to : List ℕ
 pub record CopyStops (told told' : Told) (from to : List ℕ) (history : List Entry) : Type 0 where
   pub given_is : IsGiven told from history
   pub contents : Holds told told' to (written (services_at 2 history)) ⊎ Stay told told'
-
-abbrev pub no_memory : NoMemory
-no_memory = record {}
-
--- what a run tells where a file couldn't be opened: the in file where the second argument is true, and else the out file
-abbrev pub unopened : FilesFault → Bool → Result RunEnd NoMemory
-unopened Failed true = Ok (record { stuck = false; input = Some Open; output = None })
-unopened Failed false = Ok (record { stuck = false; input = None; output = Some Open })
-unopened Memory input = Err no_memory
-
--- what a run tells that went to its end, by whether it is stuck, a read failed and a write failed, and by how the out
--- file was closed
-abbrev pub run_end : Bool → Bool → Bool → Result (Unit {0}) FilesFault → Result RunEnd NoMemory
-run_end stuck read write (Ok u) =
-    Ok (record { stuck = stuck; input = if read then Some Read else None; output = if write then Some Write else None })
-run_end stuck read write (Err Failed) =
-    Ok (record { stuck = stuck; input = if read then Some Read else None; output = if write then Some Write else Some Close })
-run_end stuck read write (Err Memory) = Err no_memory
-
--- a run that stopped short: nothing is closed
-pub record IsStopped (told told' : Told) (calls calls' : ℕ) (end : Result RunEnd NoMemory) : Type 0 where
-  pub end_is : (e : RunEnd) → end ≢ Ok e
-  pub calls_are : calls' ≡ calls
-  pub contents : told' ≡ told
-
--- how a run is finished: where it stopped short nothing is closed, and else the out file is closed and the lines are
--- those of the history and of how it was closed
-pub record IsClosed (told told' : Told) (calls calls' : ℕ) (to : List ℕ) (held : Option (List ℕ)) (history : List Entry) (end : Result RunEnd NoMemory) : Type 0 where
-  pub closed : Result (Unit {0}) FilesFault
-  pub end_is : end ≡ run_end (ends_stuck history) (failed_at 1 history) (failed_at 2 history) closed
-  pub later : calls ≤ calls'
-  pub failed : closed ≡ Err Failed → Rose calls calls'
-  pub contents : MatchResult closed (λ _. Puts told told' to held) (λ _. Stay told told')
-
-abbrev pub IsFinished : Told → Told → ℕ → ℕ → List ℕ → Option (List ℕ) → Result (Unit {0}) NoMemory → List Entry → Result RunEnd NoMemory → Type 0
-IsFinished told told' calls calls' to held (Ok u) history end = IsClosed told told' calls calls' to held history end
-IsFinished told told' calls calls' to held (Err wanted) history end = IsStopped told told' calls calls' end

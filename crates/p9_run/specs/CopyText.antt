@@ -26,3 +26,7 @@ pub record IsCopyText (text from to : List ℕ) : Type 0 where
   pub from_path : IsPath from
   pub to_path : IsPath to
   pub differ : from ≢ to
+
+-- the text is no copy's
+abbrev pub IsNoCopyText : List ℕ → Type 0
+IsNoCopyText text = (from to : List ℕ) → ¬ (IsCopyText text from to)

@@ -8,6 +8,10 @@ pub record IsAccepted (text from to : List ℕ) : Type 0 where
   pub copy : IsCopyText text from to
   pub short : length text ≤ 1048576
 
+-- no copy's text, or one that is too long
+abbrev pub IsRefused : List ℕ → Type 0
+IsRefused text = (from to : List ℕ) → ¬ (IsAccepted text from to)
+
 -- the path has this text, where contents are told
 abbrev pub HasText : Told → List ℕ → List ℕ → Type 0
 HasText None path text = ⊤
@@ -29,4 +33,4 @@ pub record IsCopyFile (told : Told) (file from to : List ℕ) : Type 0 where
 pub record IsOtherFile (told : Told) (file : List ℕ) : Type 0 where
   pub text : List ℕ
   pub has : HasText told file text
-  pub other : (from to : List ℕ) → ¬ (IsAccepted text from to)
+  pub other : IsRefused text

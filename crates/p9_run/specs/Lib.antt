@@ -10,6 +10,8 @@ pub mod CopySetup
 pub mod Report
 pub mod FileText
 pub mod CopyEnd
+pub mod CopyFinish
+pub mod Ended
 pub mod PipeMain
 pub mod Slots
 pub mod Stands

@@ -26,3 +26,8 @@ pub record Moves (history : List Entry) (left left' held held' : Option (List �
   pub written : Appends held held' (written (services_at 2 history))
   pub read_faults : RoseBy (failures (services_at 1 history)) faults faults'
   pub write_faults : RoseBy (failures (services_at 2 history)) counts counts'
+
+-- the same by what a source and a sink tell of themselves
+abbrev pub MovesOver : {S K : Type 0} → (S → Option (List ℕ)) → (S → ℕ) → (K → Option (List ℕ)) → (K → ℕ) → List Entry → S → S → K → K → Type 0
+MovesOver left faults held counts history source source' sink sink' =
+    Moves history (left source) (left source') (held sink) (held sink') (faults source) (faults source') (counts sink) (counts sink')

@@ -25,3 +25,11 @@ AllServe serves history k [] [] = Unit {0}
 AllServe serves history k [] (d ∷ devices) = ⊥
 AllServe serves history k (f ∷ firsts) [] = ⊥
 AllServe serves history k (f ∷ firsts) (d ∷ devices) = Serves serves k history f d × AllServe serves history (k + 1) firsts devices
+
+-- where a device has served so by the history before, it has by the one after, whatever its first state was
+abbrev pub ServesOn : {D : Type 0} → (D → IoCall → Effect → D → Type 0) → ℕ → List Entry → D → List Entry → D → Type 0
+ServesOn {D} serves k before old after new = (first : D) → Serves serves k before first old → Serves serves k after first new
+
+-- the same of all devices, of which the first one serves ioproc 1
+abbrev pub AllServeOn : {D : Type 0} → (D → IoCall → Effect → D → Type 0) → List Entry → List D → List Entry → List D → Type 0
+AllServeOn {D} serves before old after new = (firsts : List D) → AllServe serves before 1 firsts old → AllServe serves after 1 firsts new

@@ -4,6 +4,7 @@ use Rattle.p9_word.specs.declared.answer.Answer.{Answer}
 use Rattle.p9_word.specs.declared.request.Request.{Request}
 use Rattle.p9_word.specs.declared.trail.Entry.{Entry}
 use Rattle.p9_manual.specs.Programs.{Life, Unborn, Lives, Dead, life, Asks, RunsPrograms}
+use Rattle.p9_run.specs.declared.proc_turn.Running.{Running}
 use Rattle.p9_run.specs.Slots.{slot}
 
 -- a thread's body stands for the answers that the history gives it
@@ -36,3 +37,7 @@ pub record InTurn {B : Type 0} (asks : Asks) (plan : B → List Answer → Reque
   pub runs : RunsPrograms asks history
   pub others : (u : ℕ) → u ≢ t → Stands asks plan stands (life u history) (slot slots u)
   pub ready : IsReady asks plan stands (life t history) last b
+
+-- the same of a thread that is taken out for its turn
+abbrev pub HasTurn : {B : Type 0} → Asks → (B → List Answer → Request) → (B → List Answer → Type 0) → List Entry → List (Option B) → Running B → Type 0
+HasTurn asks plan stands history slots thread = InTurn asks plan stands history slots thread.tid thread.last thread.body

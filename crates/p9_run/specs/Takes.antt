@@ -3,13 +3,14 @@ use Rattle.std.specs.Prelude.{ℕ, ◌≡◌, ◌<◌, ◌≤◌, ◌^◌, List,
 use Rattle.p9_word.specs.Filled.{Filled}
 use Rattle.p9_word.specs.declared.io_call.IoCall.{IoCall}
 use Rattle.p9_word.specs.declared.io_call.Effect.{Effect}
+use Rattle.p9_word.specs.declared.setup.Setup.{Setup}
 use Rattle.p9_word.specs.declared.trail.Event.TheVariants.{IoTake, IoDid}
 use Rattle.p9_word.specs.declared.trail.Reply.TheVariants.{Took, Noted}
 use Rattle.p9_word.specs.declared.trail.Seat.TheVariants.{Io}
 use Rattle.p9_word.specs.declared.trail.Entry.{Entry}
 use Rattle.p9_manual.specs.declared.state.Ioproc.{Ioproc}
 use Rattle.p9_manual.specs.Effects.{Fits, room_for, message_length}
-use Rattle.p9_manual.specs.IoReplies.{IsBegun}
+use Rattle.p9_laws.specs.IoReplies.{ioproc_after, IsBegun}
 
 abbrev pub took : ℕ → IoCall → Entry
 took k call = record { seat = Io k; event = IoTake; reply = Took call }
@@ -35,3 +36,7 @@ pub record MayTell (io : Option Ioproc) (effect : Effect) : Type 0 where
   pub call : IoCall
   pub begun : IsBegun call io
   pub fits : Fits call effect
+
+-- the same of the ioproc that the history after leaves
+abbrev pub TakesAt : Setup → ℕ → List Entry → Option (IoCall × Filled ℕ) → List Entry → Type 0
+TakesAt setup k before taken after = Takes k before (ioproc_after setup after k) taken after

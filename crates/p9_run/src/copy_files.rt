@@ -1,17 +1,19 @@
-ghost use Rattle.std.specs.Prelude.{◌≡◌, [], MatchResult, IfOk, OnOk, true};
+ghost use Rattle.std.specs.Prelude.{◌≡◌, [], IfOk, OnOk};
 ghost use Rattle.p9_word.specs.Setup.{IsValid};
-ghost use Rattle.p9_run.specs.CopyEnd.{IsCopyTrail, CopyEnds, CopyStops, fails_at, failed_at, unopened, run_end, IsFinished};
+ghost use Rattle.p9_run.specs.CopyEnd.{IsCopyTrail, fails_at, failed_at};
+ghost use Rattle.p9_run.specs.CopyFinish.{unopened, run_end, FinishesRun, CopyLeaves};
 ghost use Rattle.p9_run.specs.CopySetup.{copy_setup};
-ghost use Rattle.p9_run.specs.Moves.{Moves};
+ghost use Rattle.p9_run.specs.Moves.{MovesOver};
 ghost use Rattle.p9_manual.specs.Effects.{has_failed};
-ghost use Rattle.p9_manual.specs.Ending.{HasEnded, is_stuck_reply, ends_stuck};
+ghost use Rattle.p9_laws.specs.Ending.{HasEnded, is_stuck_reply, ends_stuck};
 
 use crate::copy_programs::CopyPrograms;
 use crate::copy_setup::copy_setup;
 use crate::report::{FileFault, RunEnd};
 use crate::run_files::{Ran, run_files};
+use p9_laws::ending::runs_end;
 use p9_machine::Machine;
-use p9_manual::laws::ending::runs_end;
+use p9_outside::laws::untold_reads_are_full;
 use p9_outside::{Files, FilesFault, Sink, Source};
 use p9_word::{Effect, Entry, Event, NoMemory, Reply, Room, Seat, Trail};
 use std::alloc::Global;
@@ -141,7 +143,7 @@ fn run_copy<R: Wait, S: Source + Drop, K: Sink + Drop>(
 ) -> Result<CopyRun<S, K>, NoMemory>
     ensures trail { IfOk result (λ r. IsCopyTrail r.trail) }
     ensures ended { IfOk result (λ r. OnOk r.ran.outcome (HasEnded copy_setup r.trail.entries.items)) }
-    ensures moves { IfOk result (λ r. Moves r.trail.entries.items (S.left source) (S.left r.ran.source) (K.held sink) (K.held r.ran.sink) (S.faults source) (S.faults r.ran.source) (K.faults sink) (K.faults r.ran.sink)) }
+    ensures moves { IfOk result (λ r. MovesOver S.left S.faults K.held K.faults r.trail.entries.items source r.ran.source sink r.ran.sink) }
 {
     let mut machine = new_machine(alloc)?;
     let programs = CopyPrograms::new(alloc);
@@ -174,8 +176,9 @@ pub(crate) fn copy_files<R: Wait, F: Files>(
     to: &[u8],
 ) -> Copied
     ensures trail { IsCopyTrail result.trail }
-    ensures end { MatchResult result.end (λ end. CopyEnds (F.contents files.old) (F.contents files.new) (F.faults files.old) (F.faults files.new) from.now to.now result.trail.entries.items end) (λ _. CopyStops (F.contents files.old) (F.contents files.new) from.now to.now result.trail.entries.items) }
+    ensures end { CopyLeaves F.contents F.faults files.old files.new from.now to.now result }
 {
+    untold_reads_are_full();
     let source = match files.source(alloc, from) {
         Ok(source) => source,
         Err(fault) => return not_run(alloc, unopened(fault, true)),
@@ -193,7 +196,7 @@ pub(crate) fn copy_files<R: Wait, F: Files>(
 /// Makes what was written the contents of the out file, where the run came to its end.
 fn finish<F: Files>(files: &mut F, to: &[u8], run: CopyRun<F::Src, F::Dst>) -> Copied
     ensures trail { result.trail ≡ run.trail }
-    ensures end { IsFinished (F.contents files.old) (F.contents files.new) (F.faults files.old) (F.faults files.new) to.now (F.Dst.held run.ran.sink) run.ran.outcome run.trail.entries.items result.end }
+    ensures end { FinishesRun F.contents F.faults files.old files.new F.Dst.held to.now run result.end }
 {
     let CopyRun { ran, trail } = run;
     let Ran {

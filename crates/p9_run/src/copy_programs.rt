@@ -1,5 +1,3 @@
-ghost use Rattle.std.specs.Prelude.{◌≡◌};
-
 use crate::reader::Reader;
 use crate::writer::Writer;
 use p9_word::{Answer, Body, NoMemory, Programs, Request};

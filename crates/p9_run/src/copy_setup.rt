@@ -1,4 +1,4 @@
-ghost use Rattle.std.specs.Prelude.{◌≡◌, ◌∷◌, [], IfOk};
+ghost use Rattle.std.specs.Prelude.{◌≡◌, IfOk};
 ghost use Rattle.p9_word.specs.Setup.{IsValid};
 ghost use Rattle.p9_run.specs.CopySetup.{thread, copy_setup};
 

@@ -1,6 +1,6 @@
 ghost use Rattle.std.specs.Prelude.{◌≡◌, ◌≢◌, ◌↔◌, ◌++◌, [], IsTrue, ℕ, List, MatchOption, IfOk, take, drop};
 ghost use Rattle.std.specs.List.{prefix_len};
-ghost use Rattle.p9_run.specs.CopyText.{is_path_byte, copy_end, IsCopyText};
+ghost use Rattle.p9_run.specs.CopyText.{is_path_byte, copy_end, IsCopyText, IsNoCopyText};
 
 use p9_word::{Msg, NoMemory};
 use std::alloc::Global;
@@ -52,7 +52,7 @@ fn is_end(from: &[u8], to: &[u8], rest: &[u8]) -> bool
 
 /// The two paths of a text that has a copy's lines, else `None`.
 fn find_paths(text: &[u8]) -> Option<(&[u8], &[u8])>
-    ensures { MatchOption result ((from to : List ℕ) → ¬ (IsCopyText text.now from to)) (λ p. IsCopyText text.now p.0.now p.1.now) }
+    ensures { MatchOption result (IsNoCopyText text.now) (λ p. IsCopyText text.now p.0.now p.1.now) }
 {
     let Some(rest) = after(text, b"file i in '") else {
         return None;
@@ -71,7 +71,7 @@ fn find_paths(text: &[u8]) -> Option<(&[u8], &[u8])>
 
 /// The paths of a text that copies one file to another, or `None` where it is no such text.
 pub(crate) fn read_text(alloc: Global, text: &[u8]) -> Result<Option<CopyPaths>, NoMemory>
-    ensures { IfOk result (λ paths. MatchOption paths ((from to : List ℕ) → ¬ (IsCopyText text.now from to)) (λ p. IsCopyText text.now p.from p.to)) }
+    ensures { IfOk result (λ paths. MatchOption paths (IsNoCopyText text.now) (λ p. IsCopyText text.now p.from p.to)) }
 {
     match find_paths(text) {
         Some((from, to)) => Ok(Some(CopyPaths {

@@ -7,11 +7,11 @@ ghost use Rattle.p9_word.specs.declared.trail.Event.TheVariants.{Next, Call};
 ghost use Rattle.p9_word.specs.declared.trail.Reply.TheVariants.{Now};
 ghost use Rattle.p9_word.specs.declared.trail.Seat.TheVariants.{Proc};
 ghost use Rattle.p9_manual.specs.History.{with_entry};
-ghost use Rattle.p9_manual.specs.IoReplies.{ioproc_after};
+ghost use Rattle.p9_laws.specs.IoReplies.{ioproc_after};
 ghost use Rattle.p9_manual.specs.Programs.{life};
-ghost use Rattle.p9_manual.specs.RunReplies.{reply_at, RunsAfter, IsCallReply, IsGiven, IsNextReply};
+ghost use Rattle.p9_laws.specs.RunReplies.{reply_at, RunsAfter, IsCallReply, IsGiven, IsNextReply};
 ghost use Rattle.p9_run.specs.Over.{StaysOver};
-ghost use Rattle.p9_run.specs.Takes.{Takes, MayTell, noted};
+ghost use Rattle.p9_run.specs.Takes.{TakesAt, MayTell, noted};
 
 use p9_word::{Effect, IoCall, NoMemory, Reply, Request, Room, Tid};
 
@@ -49,7 +49,7 @@ pub(crate) trait Engine {
     /// posted there, or the run is at its end.
     fn take(&mut self, k: u32) -> Result<Option<(IoCall, Room<u8>)>, NoMemory>
         ensures setup { setup self.new ≡ setup self.old }
-        ensures call { IfOk result (λ o. Takes k (entries self.old) (ioproc_after (setup self.new) (entries self.new) k) o (entries self.new)) }
+        ensures call { IfOk result (λ o. TakesAt (setup self.new) k (entries self.old) o (entries self.new)) }
         ensures refused { OnErr result (entries self.new ≡ entries self.old) };
 
     /// Ioproc `k` tells what its call came to. All memory for it was taken with the call.

@@ -1,8 +1,8 @@
-ghost use Rattle.std.specs.Prelude.{◌≡◌, ◌≤◌, ◌⊎◌, ℕ, List, length, IfOk, MatchOption};
+ghost use Rattle.std.specs.Prelude.{◌≡◌, ◌≤◌, ◌⊎◌, length, IfOk, MatchOption};
 ghost use Rattle.std.specs.Io.KnownBytes.{Consumes, IsAtEnd};
 ghost use Rattle.p9_outside.specs.Causes.{Rose};
 ghost use Rattle.p9_outside.specs.Contents.{Stay};
-ghost use Rattle.p9_run.specs.FileText.{IsAccepted, IsReadFrom};
+ghost use Rattle.p9_run.specs.FileText.{IsAccepted, IsRefused, IsReadFrom};
 
 use crate::copy_text::{CopyPaths, read_text};
 use crate::report::FileFault;
@@ -84,7 +84,7 @@ pub(crate) fn read_file<F: Files>(
 
 /// The paths of a text that is run, or `None` where it is another text.
 pub(crate) fn accept(alloc: Global, text: &[u8]) -> Result<Option<CopyPaths>, NoMemory>
-    ensures { IfOk result (λ paths. MatchOption paths ((from to : List ℕ) → ¬ (IsAccepted text.now from to)) (λ p. IsAccepted text.now p.from p.to)) }
+    ensures { IfOk result (λ paths. MatchOption paths (IsRefused text.now) (λ p. IsAccepted text.now p.from p.to)) }
 {
     if text.len() > LONGEST_TEXT {
         return Ok(None);

@@ -1,8 +1,9 @@
 ghost use Rattle.std.specs.Prelude.{◌≡◌};
-ghost use Rattle.p9_run.specs.Services.{TouchesOnly, Serves};
+ghost use Rattle.p9_run.specs.Services.{TouchesOnly, ServesOn};
 
 use crate::engine::Engine;
 use p9_outside::Device;
+use p9_outside::laws::services_lead_on;
 use p9_word::NoMemory;
 
 /// One turn of ioproc `k`: takes the call that is posted there, if there is one, lets the device serve it
@@ -14,12 +15,13 @@ pub(crate) fn io_turn<E: Engine, D: Device>(
 ) -> Result<(), NoMemory>
     ensures setup { E.setup engine.new ≡ E.setup engine.old }
     ensures only { TouchesOnly k (E.entries engine.old) (E.entries engine.new) }
-    ensures serves { (first : D) → Serves D.serves k (E.entries engine.old) first device.old → Serves D.serves k (E.entries engine.new) first device.new }
+    ensures serves { ServesOn D.serves k (E.entries engine.old) device.old (E.entries engine.new) device.new }
 {
     let Some((call, room)) = engine.take(k)? else {
         return Ok(());
     };
     let effect = device.serve(&call, room);
     engine.did(k, effect);
+    services_lead_on::<D>();
     Ok(())
 }

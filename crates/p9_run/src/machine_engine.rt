@@ -1,18 +1,20 @@
 ghost use Rattle.std.specs.Prelude.{◌≡◌, IfOk, OnErr};
 ghost use Rattle.p9_manual.specs.History.{IsLegal, with_entry};
-ghost use Rattle.p9_manual.specs.RunReplies.{reply_at};
+ghost use Rattle.p9_laws.specs.RunReplies.{reply_at};
 ghost use Rattle.p9_run.specs.Over.{StaysOver};
 ghost use Rattle.p9_machine.specs.Shown.{rooms_after};
 
 use crate::engine::Engine;
-use p9_machine::Machine;
-use p9_manual::laws::running::{
+use p9_laws::running::{
     answered_threads_run_on, fitting_effects_are_noted, over_stays_over, posted_calls_are_taken,
     running_calls_are_served, taken_calls_are_begun, turns_go_to_living_threads, turns_make_run,
 };
+use p9_machine::Machine;
 use p9_word::{Effect, Event, IoCall, NoMemory, Reply, Request, Room, Seat, Tid};
 
-/// One event, for which memory is taken first.
+/// One event, for which memory is taken first. It is inlined so that each kind of event is compiled by itself: the hint is dropped
+/// where the steps that are inlined here grow large, and then an event costs half as much again.
+#[inline(always)]
 fn one_event(machine: &mut Machine, seat: Seat, event: Event) -> Result<Reply, NoMemory>
     ensures setup { machine.new.setup ≡ machine.old.setup }
     ensures legal { IsLegal machine.old.setup machine.old.entries }

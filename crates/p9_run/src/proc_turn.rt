@@ -4,9 +4,9 @@ ghost use Rattle.p9_word.specs.declared.trail.Event.TheVariants.{Next};
 ghost use Rattle.p9_word.specs.declared.trail.Reply.TheVariants.{Over};
 ghost use Rattle.p9_manual.specs.Programs.{RunsPrograms};
 ghost use Rattle.p9_word.specs.Setup.{IsValid};
-ghost use Rattle.p9_manual.specs.RunReplies.{reply_at, RunsAfter};
+ghost use Rattle.p9_laws.specs.RunReplies.{reply_at, RunsAfter};
 ghost use Rattle.p9_run.specs.Over.{StaysOver};
-ghost use Rattle.p9_run.specs.Stands.{Between, InTurn};
+ghost use Rattle.p9_run.specs.Stands.{Between, HasTurn};
 ghost use Rattle.p9_run.specs.Untouched.{TouchesNoFile};
 
 use crate::bodies::Bodies;
@@ -32,7 +32,7 @@ fn run_thread<R: Wait, E: Engine, P: Programs>(
     p: u32,
     thread: Running<P::B>,
 ) -> Result<(), NoMemory>
-    requires turn { InTurn (P.asks programs.now) P.B.plan P.B.stands_for (E.entries engine.old) bodies.old.slots.items thread.tid thread.last thread.body }
+    requires turn { HasTurn (P.asks programs.now) P.B.plan P.B.stands_for (E.entries engine.old) bodies.old.slots.items thread }
     requires runs { RunsAfter (E.setup engine.old) (E.entries engine.old) p thread.tid }
     requires room { thread.tid < length bodies.old.slots.items }
     ensures setup { E.setup engine.new ≡ E.setup engine.old }
@@ -71,7 +71,7 @@ fn begin_thread<R: Wait, E: Engine, P: Programs>(
     p: u32,
     thread: Running<P::B>,
 ) -> Result<(), NoMemory>
-    requires turn { InTurn (P.asks programs.now) P.B.plan P.B.stands_for (E.entries engine.old) bodies.old.slots.items thread.tid thread.last thread.body }
+    requires turn { HasTurn (P.asks programs.now) P.B.plan P.B.stands_for (E.entries engine.old) bodies.old.slots.items thread }
     requires runs { RunsAfter (E.setup engine.old) (E.entries engine.old) p thread.tid }
     ensures setup { E.setup engine.new ≡ E.setup engine.old }
     ensures ok { OnOk result (Between (P.asks programs.now) P.B.plan P.B.stands_for (E.entries engine.new) bodies.new.slots.items) }

@@ -1,9 +1,7 @@
-ghost use Rattle.std.specs.Prelude.{◌≡◌, ◌≤◌, ◌⊎◌, ℕ, List, [], Some, map, string_bytes};
-ghost use Rattle.p9_outside.specs.Contents.{Told, Stay};
-ghost use Rattle.p9_run.specs.CommandLine.{command};
+ghost use Rattle.std.specs.Prelude.{◌≡◌, ◌⊎◌, [], map, string_bytes};
 ghost use Rattle.p9_run.specs.CopyEnd.{IsCopyTrail};
-ghost use Rattle.p9_run.specs.FileText.{IsReadFrom};
-ghost use Rattle.p9_run.specs.PipeMain.{CameTo, IsCopyCame, Answers, IsCall};
+ghost use Rattle.p9_run.specs.Ended.{CopyEnded, TextEnded, FileEnded, WordsEnded, AnswersOn};
+ghost use Rattle.p9_run.specs.PipeMain.{IsCall};
 ghost use Rattle.p9_run.specs.declared.report.CommandEnd.TheVariants.{Memory};
 
 use crate::command::command;
@@ -11,6 +9,7 @@ use crate::copy_files::{Copied, copy_files, no_trail};
 use crate::copy_text::CopyPaths;
 use crate::file_text::{TextFault, accept, read_file};
 use crate::report::{CommandEnd, FileFault, memory_line, messages, status};
+use p9_outside::laws::untold_reads_are_full;
 use p9_outside::{Files, Sink, Source, drain};
 use p9_word::{Msg, NoMemory, Trail};
 use std::alloc::Global;
@@ -53,7 +52,7 @@ fn nothing_ran(alloc: Global, end: CommandEnd) -> Ended
 /// Runs the text of a copy with these paths.
 fn run_copy<R: Wait, F: Files>(rt: &R, alloc: Global, files: &mut F, paths: CopyPaths) -> Ended
     ensures trail { IsCopyTrail result.trail }
-    ensures came { IsCopyCame result.end (F.contents files.old) (F.contents files.new) (F.faults files.old) (F.faults files.new) paths.from paths.to result.trail.entries.items }
+    ensures came { CopyEnded F.contents F.faults files.old files.new paths.from paths.to result }
 {
     let CopyPaths { from, to } = paths;
     let Copied { end, trail } = copy_files(rt, alloc, files, from.as_slice(), to.as_slice());
@@ -78,8 +77,9 @@ fn run_text<R: Wait, F: Files>(
     text: &[u8],
 ) -> Ended
     ensures trail { IsCopyTrail result.trail }
-    ensures came { (words : List (List ℕ)) (told : Told) (calls : ℕ) → command words ≡ Some file → IsReadFrom told file text.now → Stay told (F.contents files.old) → calls ≤ F.faults files.old → CameTo result.end words told (F.contents files.new) calls (F.faults files.new) result.trail.entries.items }
+    ensures came { TextEnded F.contents F.faults files.old files.new file text.now result }
 {
+    untold_reads_are_full();
     match accept(alloc, text) {
         Ok(Some(paths)) => run_copy(rt, alloc, files, paths),
         Ok(None) => nothing_ran(alloc, CommandEnd::NotYet { file }),
@@ -90,7 +90,7 @@ fn run_text<R: Wait, F: Files>(
 /// Reads FILE and runs its text.
 fn run_file<R: Wait, F: Files>(rt: &R, alloc: Global, files: &mut F, file: Msg) -> Ended
     ensures trail { IsCopyTrail result.trail }
-    ensures came { (words : List (List ℕ)) → command words ≡ Some file → CameTo result.end words (F.contents files.old) (F.contents files.new) (F.faults files.old) (F.faults files.new) result.trail.entries.items }
+    ensures came { FileEnded F.contents F.faults files.old files.new file result }
 {
     let fault = match read_file(alloc, files, file.as_slice()) {
         Ok(text) => return run_text(rt, alloc, files, file, text.as_slice()),
@@ -104,7 +104,7 @@ fn run_file<R: Wait, F: Files>(rt: &R, alloc: Global, files: &mut F, file: Msg) 
 /// Does what the words ask for.
 fn run_words<R: Wait, F: Files>(rt: &R, alloc: Global, words: &Vec<String>, files: &mut F) -> Ended
     ensures trail { IsCopyTrail result.trail }
-    ensures came { CameTo result.end (map string_bytes words.now.items) (F.contents files.old) (F.contents files.new) (F.faults files.old) (F.faults files.new) result.trail.entries.items }
+    ensures came { WordsEnded F.contents F.faults files.old files.new (map string_bytes words.now.items) result }
 {
     let Some(file) = command(words) else {
         return nothing_ran(alloc, CommandEnd::Usage);
@@ -118,7 +118,7 @@ fn run_words<R: Wait, F: Files>(rt: &R, alloc: Global, words: &Vec<String>, file
 /// Tells what a command came to, and answers the status. Where there is no memory for the messages, that
 /// is told in their place.
 fn tell<E: Sink>(alloc: Global, end: &CommandEnd, err: &mut E) -> u8
-    ensures { Answers end.now (E.held err.old) (E.held err.new) (E.faults err.old) (E.faults err.new) result ⊎ Answers Memory (E.held err.old) (E.held err.new) (E.faults err.old) (E.faults err.new) result }
+    ensures { AnswersOn E.held E.faults err.old err.new end.now result ⊎ AnswersOn E.held E.faults err.old err.new Memory result }
 {
     match messages(alloc, end) {
         Ok(text) => {
@@ -152,7 +152,9 @@ pub fn pipe_main<
     err: &mut E,
 ) -> Outcome<I, O>
     ensures trail { IsCopyTrail result.trail }
-    ensures call { IsCall (map string_bytes words.now.items) (F.contents files.old) (F.contents files.new) (F.faults files.old) (F.faults files.new) result.trail.entries.items (E.held err.old) (E.held err.new) (E.faults err.old) (E.faults err.new) result.status }
+    ensures call { IsCall (map string_bytes words.now.items) (F.contents files.old) (F.contents files.new)
+        (F.faults files.old) (F.faults files.new) result.trail.entries.items
+        (E.held err.old) (E.held err.new) (E.faults err.old) (E.faults err.new) result.status }
     ensures input { result.input ≡ input }
     ensures out { result.out ≡ out }
 {

@@ -1,9 +1,9 @@
-ghost use Rattle.std.specs.Prelude.{◌≡◌, ◌<◌, ◌^◌, ◌+◌, List, length, OnOk, OnErr, Ok, true};
+ghost use Rattle.std.specs.Prelude.{◌≡◌, ◌<◌, ◌^◌, ◌+◌, length, OnOk, OnErr, Ok, true};
 ghost use Rattle.p9_manual.specs.Programs.{RunsPrograms};
 ghost use Rattle.p9_word.specs.Setup.{IsValid};
-ghost use Rattle.p9_manual.specs.RunReplies.{reply_at};
+ghost use Rattle.p9_laws.specs.RunReplies.{reply_at};
 ghost use Rattle.p9_run.specs.Over.{AllOver};
-ghost use Rattle.p9_run.specs.Services.{AllServe};
+ghost use Rattle.p9_run.specs.Services.{AllServeOn};
 ghost use Rattle.p9_run.specs.Stands.{Between};
 ghost use Rattle.p9_run.specs.Untouched.{TouchesNoFile, TouchesNoThread};
 
@@ -20,7 +20,7 @@ fn io_turns<E: Engine, D: Device>(engine: &mut E, devices: &mut [D]) -> Result<(
     requires { length devices.old + 1 < 2 ^ 32 }
     ensures setup { E.setup engine.new ≡ E.setup engine.old }
     ensures threads { TouchesNoThread (E.entries engine.old) (E.entries engine.new) }
-    ensures devices { (firsts : List D) → AllServe D.serves (E.entries engine.old) 1 firsts devices.old → AllServe D.serves (E.entries engine.new) 1 firsts devices.new }
+    ensures devices { AllServeOn D.serves (E.entries engine.old) devices.old (E.entries engine.new) devices.new }
 {
     let mut k = 1;
     for device in devices.iter_mut() {
@@ -74,7 +74,7 @@ pub(crate) fn run_rounds<R: Wait, E: Engine, P: Programs, D: Device>(
     ensures setup { E.setup engine.new ≡ E.setup engine.old }
     ensures all_over { OnOk result (AllOver procs (reply_at (E.setup engine.new) (E.entries engine.new))) }
     ensures runs { RunsPrograms (P.asks programs.now) (E.entries engine.new) }
-    ensures devices { (firsts : List D) → AllServe D.serves (E.entries engine.old) 1 firsts devices.old → AllServe D.serves (E.entries engine.new) 1 firsts devices.new }
+    ensures devices { AllServeOn D.serves (E.entries engine.old) devices.old (E.entries engine.new) devices.new }
 {
     for _ in rt.forever() {
         let all_over = proc_turns(rt, engine, programs, bodies, procs)?;

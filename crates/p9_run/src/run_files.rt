@@ -1,13 +1,14 @@
 ghost use Rattle.std.specs.Prelude.{◌≡◌, [], OnOk};
 ghost use Rattle.p9_run.specs.Directions.{in_of, out_of};
-ghost use Rattle.p9_run.specs.Moves.{RunsOnFiles, Moves};
+ghost use Rattle.p9_run.specs.Moves.{RunsOnFiles, MovesOver};
 ghost use Rattle.p9_word.specs.Setup.{IsValid};
-ghost use Rattle.p9_manual.specs.RunReplies.{reply_at};
+ghost use Rattle.p9_laws.specs.RunReplies.{reply_at};
 ghost use Rattle.p9_run.specs.Over.{AllOver};
 
 use crate::bodies::Bodies;
 use crate::engine::Engine;
 use crate::rounds::run_rounds;
+use p9_outside::laws::{files_run, no_bytes_move_nothing};
 use p9_outside::{FileDevice, ReadDevice, Sink, Source, WriteDevice};
 use p9_word::{NoMemory, Programs};
 use std::alloc::Global;
@@ -61,8 +62,10 @@ pub(crate) fn run_files<R: Wait, E: Engine, P: Programs, S: Source + Drop, K: Si
     ensures setup { E.setup engine.new ≡ E.setup engine.old }
     ensures all_over { OnOk result.outcome (AllOver procs (reply_at (E.setup engine.new) (E.entries engine.new))) }
     ensures history { RunsOnFiles (P.asks programs.now) (E.entries engine.new) }
-    ensures moves { Moves (E.entries engine.new) (S.left source) (S.left result.source) (K.held sink) (K.held result.sink) (S.faults source) (S.faults result.source) (K.faults sink) (K.faults result.sink) }
+    ensures moves { MovesOver S.left S.faults K.held K.faults (E.entries engine.new) source result.source sink result.sink }
 {
+    files_run::<S, K>();
+    no_bytes_move_nothing();
     let mut devices = match Vec::with_capacity(alloc, 2) {
         Ok(devices) => devices,
         Err(_) => {

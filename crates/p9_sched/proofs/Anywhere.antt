@@ -80,7 +80,8 @@ times_by true c n e = lt-ltb 0 (1 + n) (omega arith)
 times_by false c n e = let same : 0 + n ≡ n = omega arith in rw same e
 
 -- a test passes at times above 0 just where it passes
-above_none : {A : Type 0} (f : A → Bool) → (xs : List A) → nat_lt 0 (times f xs) ≡ list_any f xs
+-- a count above 0
+pub above_none : {A : Type 0} (f : A → Bool) → (xs : List A) → nat_lt 0 (times f xs) ≡ list_any f xs
 above_none f [] = refl
 above_none f (x ∷ xs) = times_by (f x) (list_any f xs) (times f xs) (above_none f xs)
 

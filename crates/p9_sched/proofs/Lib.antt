@@ -10,3 +10,5 @@ pub mod Asks
 pub mod Views
 pub mod Nexts
 pub mod Anywhere
+pub mod Lines
+pub mod Tracks

@@ -1,6 +1,9 @@
 pub mod Kept
 pub mod Lined
+pub mod Made
+pub mod Messages
 pub mod Schedule
+pub mod Stands
 pub mod Stored
 pub mod Table
 pub mod Turns

@@ -1,5 +1,4 @@
-ghost use Rattle.std.specs.Prelude.{◌≡◌, ◌+◌, ◌<◌, ◌≤◌, [], None, length, slice_get, OnOk};
-ghost use Rattle.std.specs.Option.{option_copied};
+ghost use Rattle.std.specs.Prelude.{◌≡◌, ◌+◌, ◌<◌, ◌≤◌, length, slice_get, OnOk};
 ghost use Rattle.p9_sched.specs.Lined.{bare, no_lane, joined, queued, stopped, left, cleared, started, RunsOffLine};
 
 use crate::line::drop_from_line;
@@ -25,7 +24,13 @@ impl Model for Lane {
 
     ghost Value = { Lined };
 
-    ghost view = { λ l. record { word = l.word; line = l.line.items; living = l.living; running = l.running; room = deque_capacity l.line } };
+    ghost view = { λ l. record {
+      word = l.word;
+      line = l.line.items;
+      living = l.living;
+      running = l.running;
+      room = deque_capacity l.line;
+    } };
 }
 
 impl Lane {

@@ -9,15 +9,11 @@ mod entries;
 mod lane;
 mod lanes;
 mod line;
-mod make;
-mod moves;
-mod places;
 mod sched;
 mod slot;
 mod slots;
 mod table;
 mod turns;
-mod values;
 
 pub use sched::Sched;
 pub use turns::{Place, Ready};

@@ -152,7 +152,10 @@ impl Table {
     pub fn set_group(&mut self, t: Tid, group: u32)
         requires made { HasId t self.old.threads }
         requires room { self.old.rooms.group ≡ true }
-        ensures { self.new ≡ record self.old { threads = changed (in_group group) self.old.threads (t - 1); rooms = record self.old.rooms { group = false } } }
+        ensures { self.new ≡ record self.old {
+          threads = changed (in_group group) self.old.threads (t - 1);
+          rooms = record self.old.rooms { group = false };
+        } }
     {
         put_group(&mut self.groups, t, group);
         self.group_room = false;
@@ -173,7 +176,10 @@ impl Table {
     pub fn set_name(&mut self, t: Tid, name: Msg)
         requires made { HasId t self.old.threads }
         requires room { self.old.rooms.name ≡ true }
-        ensures { self.new ≡ record self.old { threads = changed (with_name name) self.old.threads (t - 1); rooms = record self.old.rooms { name = false } } }
+        ensures { self.new ≡ record self.old {
+          threads = changed (with_name name) self.old.threads (t - 1);
+          rooms = record self.old.rooms { name = false };
+        } }
     {
         put_name(&mut self.names, t, name);
         self.name_room = false;

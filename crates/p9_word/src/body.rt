@@ -19,7 +19,8 @@ pub trait Body {
     /// stands for what it stood for.
     fn next(&mut self, last: Answer) -> Result<Request, NoMemory>
         ensures plan { plan self.new ≡ plan self.old }
-        ensures request { (answers : List Answer) → stands_for self.old answers → IfOk result (λ r. r ≡ plan self.old (answers ++ last ∷ [])) }
+        ensures request { (answers : List Answer) → stands_for self.old answers
+            → IfOk result (λ r. r ≡ plan self.old (answers ++ last ∷ [])) }
         ensures stands { (answers : List Answer) → stands_for self.old answers → OnOk result (stands_for self.new (answers ++ last ∷ [])) }
         ensures refused { (answers : List Answer) → stands_for self.old answers → OnErr result (stands_for self.new answers) };
 }

@@ -1,4 +1,6 @@
-use Rattle.std.proofs.Common.{◌≡◌, ◌+◌, ◌≤◌, ◌++◌, length, map, take}
+use Rattle.std.proofs.Common.{◌≡◌, ◌≤◌, ◌++◌, map, take, drop}
+use Rattle.std.specs.Prelude.{count_by}
+use Rattle.p9_manual.specs.Entries.{waits_on}
 use Rattle.p9_manual.specs.Close.{all_failed}
 use Rattle.p9_alt.specs.Exchange.{pair_of}
 use Rattle.p9_alt.proofs.answers.fail_all.Given as goal
@@ -7,5 +9,5 @@ use Rattle.p9_alt.proofs.answers.fail_all.Given as goal
 abbrev pub invariant-loop-w : goal.invariant-loop-w
 invariant-loop-w l = record {
   woken : map pair_of l.woken.items ≡ map pair_of l.fn.woken.items ++ all_failed l.c (take l.w-index l.waits);
-  room : length l.waits ≤ l.woken.spare + l.w-index;
+  room : count_by (waits_on l.c) (drop l.w-index l.waits) ≤ l.woken.spare;
 }

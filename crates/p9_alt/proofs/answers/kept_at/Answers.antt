@@ -1,5 +1,5 @@
 use Rattle.std.proofs.Common.{sym, ap, ◌∙◌}
-use Rattle.p9_manual.specs.Commit.{kept_bytes}
+use Rattle.p9_manual.specs.Told.{kept_bytes}
 use Rattle.p9_word.specs.declared.alt.Slot.{Slot}
 use Rattle.p9_alt.specs.Sides.{entry_test}
 use Rattle.p9_alt.proofs.Numbers.{slot_at, slot_past}

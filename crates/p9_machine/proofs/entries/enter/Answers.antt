@@ -1,16 +1,20 @@
-use Rattle.std.proofs.Common.{sym, subst}
+use Rattle.std.proofs.Common.{List, length, ap, subst, ◌∙◌}
+use Rattle.p9_word.specs.declared.trail.Entry.{Entry}
 use Rattle.p9_word.specs.declared.trail.Event.{Event}
-use Rattle.p9_word.specs.declared.trail.Reply.{Reply}
+use Rattle.p9_word.specs.declared.trail.Seat.{Seat}
 use Rattle.p9_manual.specs.Step.{outcome}
-use Rattle.p9_machine.specs.Board.{state_of}
-use Rattle.p9_machine.specs.Copies.{IsOfReply}
-use Rattle.p9_machine.proofs.Told.{told_outcome, told_in}
+use Rattle.p9_machine.specs.Board.{Gives}
+use Rattle.p9_machine.specs.Ready.{event_of}
+use Rattle.p9_machine.proofs.Staying.{counts}
 use Rattle.p9_machine.proofs.entries.enter.Goals as goal
 
 pub put_entry-requires-clause-told : goal.put_entry-requires-clause-told
-put_entry-requires-clause-told c =
-    let rest = c.requires.board.0 in
-    let usable = c.requires.board.1 in
-    subst (λ (r : Reply). IsOfReply r c.args.reserved.told) (sym (c.outcome-reply.ensures rest usable).reply_is)
-    (subst (λ (e : Event). IsOfReply (outcome c.args.board.now.setup c.args.reserved.seat e (state_of c.args.board.now rest)).reply c.args.reserved.told) c.requires.event
-    (told_outcome c.args.board.now.setup c.args.reserved.seat c.args.reserved.event (state_of c.args.board.now rest) c.args.reserved.told (told_in c.args.board.now rest c.args.reserved.seat c.args.reserved.event c.args.reserved.told usable c.requires.memory.told)))
+put_entry-requires-clause-told c = c.outcome-reply.ensures.told c.args.reserved.told c.requires.memory.ready.told
+
+pub returns-clause-does : goal.returns-clause-does
+returns-clause-does c = λ s st sound.
+    let m = c.requires.memory in
+    let by_needs = c.outcome-reply.ensures.gives s st sound in
+    let by_seat = subst (λ (x : Seat). Gives s (outcome c.args.board.now.setup x (event_of c.args.reserved.needs) s) c.outcome-reply.result c.outcome-reply.new.board) m.seat_is by_needs in
+    let by_event = subst (λ (x : Event). Gives s (outcome c.args.board.now.setup c.args.seat x s) c.outcome-reply.result c.outcome-reply.new.board) m.event_is by_seat in
+    counts c.args.board.now.setup c.args.seat c.args.event c.outcome-reply.new.board s c.outcome-reply.result c.args.entries.now.items _ (st.entries ∙ c.requires.counted) (ap (λ (es : List Entry). length es) (c.as_slice.ensures ∙ c.put_entry.ensures.entries)) by_event

@@ -1,19 +1,23 @@
 use Rattle.std.proofs.Common.{refl, sym, ◌∙◌}
 use Rattle.p9_word.specs.declared.trail.Reply.TheVariants.{Stray, Over}
-use Rattle.p9_machine.specs.Board.{state_of}
-use Rattle.p9_machine.proofs.Turning.{unmoved, some_runs, next_over, next_stray, next_runs}
+use Rattle.p9_machine.proofs.Staying.{unmoved, gives_by}
+use Rattle.p9_machine.proofs.Turning.{some_runs, next_off, next_over, next_stray, next_runs}
 use Rattle.p9_machine.proofs.next.next_event.Goals as goal
 
-pub returns-then-is_over : goal.returns-then-is_over
-returns-then-is_over c = λ line u.
-    rw (next_over c.args.board.now.setup c.args.p (state_of c.args.board.now line) (sym c.if-not-is_place.ensures) (sym (c.if-is_over.ensures line))) (unmoved c.args.board.now line Over refl u)
+pub returns-then-not-is_place-clause-gives : goal.returns-then-not-is_place-clause-gives
+returns-then-not-is_place-clause-gives c = λ s st sound.
+    gives_by _ s _ _ Stray (next_off c.args.board.now.setup c.args.p s (sym c.if-not-is_place.ensures)) (unmoved c.args.board.now s Stray refl st)
 
-pub returns-then-is_some : goal.returns-then-is_some
-returns-then-is_some c = λ line u.
-    let runs = some_runs c.args.p c.args.board.now.sched.threads c.running.result c.running.ensures ∙ sym c.if-is_some.ensures in
-    rw (next_stray c.args.board.now.setup c.args.p (state_of c.args.board.now line) (sym c.if-not-is_place.ensures) (sym (c.if-is_over.ensures line)) runs) (unmoved c.args.board.now line Stray refl u)
+pub returns-then-is_over-clause-gives : goal.returns-then-is_over-clause-gives
+returns-then-is_over-clause-gives c = λ s st sound.
+    gives_by _ s _ _ Over (next_over c.args.board.now.setup c.args.p s (sym c.if-not-is_place.ensures) (sym (c.if-is_over.ensures s st))) (unmoved c.args.board.now s Over refl st)
 
-pub returns : goal.returns
-returns c = λ line u.
+pub returns-then-is_some-clause-gives : goal.returns-then-is_some-clause-gives
+returns-then-is_some-clause-gives c = λ s st sound.
     let runs = some_runs c.args.p c.args.board.now.sched.threads c.running.result c.running.ensures ∙ sym c.if-is_some.ensures in
-    rw (next_runs c.args.board.now.setup c.args.p (state_of c.args.board.now line) (sym c.if-not-is_place.ensures) (sym (c.if-is_over.ensures line)) runs) (c.run_next.ensures line u)
+    gives_by _ s _ _ Stray (next_stray c.args.board.now.setup c.args.p s (sym c.if-not-is_place.ensures) (sym (c.if-is_over.ensures s st)) (rw st.sched.threads runs)) (unmoved c.args.board.now s Stray refl st)
+
+pub returns-clause-gives : goal.returns-clause-gives
+returns-clause-gives c = λ s st sound.
+    let runs = some_runs c.args.p c.args.board.now.sched.threads c.running.result c.running.ensures ∙ sym c.if-is_some.ensures in
+    gives_by _ s _ _ _ (next_runs c.args.board.now.setup c.args.p s (sym c.if-not-is_place.ensures) (sym (c.if-is_over.ensures s st)) (rw st.sched.threads runs)) (c.run_next.ensures.gives s st sound)

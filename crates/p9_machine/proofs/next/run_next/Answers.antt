@@ -1,13 +1,11 @@
 use Rattle.std.proofs.Common.{refl}
-use Rattle.p9_machine.proofs.Turning.{turned, none_of, none_left, stuck_by}
+use Rattle.p9_machine.proofs.Turning.{turned, not_turned}
 use Rattle.p9_machine.proofs.next.run_next.Goals as goal
 
-pub returns-in-Some : goal.returns-in-Some
-returns-in-Some c = λ line u. rw c.told_turn.ensures (turned c.args.board.now line c.args.p c.in-Some.ready c.next_of.new.self c.requires.place.from c.requires.place.to u c.in-Some.ensures.turn)
+pub returns-in-Some-clause-gives : goal.returns-in-Some-clause-gives
+returns-in-Some-clause-gives c = λ s st sound.
+    rw c.told_turn.ensures (turned c.args.board.now s c.args.p c.in-Some.ready c.next_of.new.self c.requires.place c.in-Some.ensures.turn c.in-Some.ensures.stands st)
 
-pub returns-in-None : goal.returns-in-None
-returns-in-None c = λ line u.
-    let empty = c.in-None.ensures.none.0 refl in
-    let none = none_of c.args.board.now line c.args.p c.requires.place.from c.requires.place.to u empty in
-    let same = none_left c.args.p c.args.board.now.sched c.next_of.new.self empty c.in-None.ensures.turn in
-    stuck_by c.args.board.now line _ c.next_of.new.self c.stuck_or_idle.result c.stuck_or_idle.new.board same none (c.stuck_or_idle.ensures line) u
+pub returns-in-None-clause-gives : goal.returns-in-None-clause-gives
+returns-in-None-clause-gives c = λ s st sound.
+    not_turned c.args.board.now c.stuck_or_idle.new.board s c.args.p c.next_of.new.self c.stuck_or_idle.result c.requires.place (c.in-None.ensures.none.0 refl) c.in-None.ensures.turn (λ on. c.stuck_or_idle.ensures.gives s on sound) st

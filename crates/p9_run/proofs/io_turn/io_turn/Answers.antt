@@ -14,4 +14,4 @@ returns-clause-only g c =
 pub returns-clause-serves : goal.returns-clause-serves
 returns-clause-serves g c =
     let took = rw c.in-Some.is at c.in_ok-call.ensures.call in
-    λ first before. rw (c.did.ensures.entries, took.entries) (serves_on _ _ _ _ _ _ _ _ before c.serve-effect.ensures)
+    λ first before. rw (c.did.ensures.entries, took.entries) (serves_on _ c.services_lead_on.ensures _ _ _ _ _ _ _ before c.serve-effect.ensures)

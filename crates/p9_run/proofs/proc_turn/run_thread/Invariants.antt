@@ -1,5 +1,5 @@
 use Rattle.std.proofs.Common.{◌≡◌, ◌<◌, length}
-use Rattle.p9_manual.specs.RunReplies.{reply_at, RunsAfter}
+use Rattle.p9_laws.specs.RunReplies.{reply_at, RunsAfter}
 use Rattle.p9_run.specs.Over.{StaysOver}
 use Rattle.p9_run.specs.Stands.{InTurn}
 use Rattle.p9_run.specs.Untouched.{TouchesNoFile}

@@ -1,6 +1,6 @@
 use Rattle.p9_word.specs.Setup.{IsValid}
 use Rattle.std.proofs.Common.{◌≡◌, true}
-use Rattle.p9_manual.specs.RunReplies.{reply_at}
+use Rattle.p9_laws.specs.RunReplies.{reply_at}
 use Rattle.p9_run.specs.Over.{AllOver}
 use Rattle.p9_run.specs.Stands.{Between}
 use Rattle.p9_run.specs.Untouched.{TouchesNoFile}

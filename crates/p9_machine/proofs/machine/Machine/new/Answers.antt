@@ -1,4 +1,4 @@
-use Rattle.std.proofs.Common.{[], sym, ap, subst, ◌∙◌, arith}
+use Rattle.std.proofs.Common.{[], sym, ap, subst, arith}
 use Rattle.p9_word.specs.declared.setup.Setup.{Setup}
 use Rattle.p9_word.specs.Setup.{IsValid}
 use Rattle.p9_manual.specs.State.{State}
@@ -14,9 +14,8 @@ invariant_of-result c =
     record {
       valid = subst (λ (S : Setup). IsValid S) (sym same) c.requires.valid;
       board = rw c.new.ensures.items (subst (λ (S : Setup). Stands c.in_ok-board.board (state_after S [])) (sym same) stands);
-      places = c.in_ok-board.ensures.places ∙ ap (λ (S : Setup). S.places) (sym same);
       legal = rw c.new.ensures.items tt;
-      counted = rw c.new.ensures.items (ap (λ (s : State). s.entries) c.in_ok-board.ensures.board.state);
+      counted = rw c.new.ensures.items (sym c.in_ok-board.ensures.board.entries);
       procs = ap (λ (s : Setup). s.procs) (sym same);
       start = ap (λ (s : Setup). s.start) (sym same);
       spare = rw c.in_ok-board.ensures.calls (omega arith);

@@ -7,6 +7,7 @@ use Rattle.p9_sched.proofs.Keeping.{left_lane}
 use Rattle.p9_sched.proofs.Lists.{id_of}
 use Rattle.p9_sched.proofs.Sound.{moved, proc_is, line_off}
 use Rattle.p9_sched.proofs.Views.{alive_here, slot_proc, seen_proc, seen_place, moved_view}
+use Rattle.p9_sched.proofs.Tracks.{tracks_ended}
 use Rattle.p9_sched.proofs.sched.Sched.end.Goals as goal
 
 pub slot-requires : goal.slot-requires
@@ -44,3 +45,6 @@ pub returns-clause-place : goal.returns-clause-place
 returns-clause-place c =
     let a = alive_here c.self.inside c.args.self.now c.args.t c.self.view_is c.requires in
     seen_place c.self.inside c.args.self.now c.args.t a.thread c.self.view_is a.there c.self.invariant
+
+pub returns-clause-stands : goal.returns-clause-stands
+returns-clause-stands c = tracks_ended c.args.t c.args.self.now _ (returns-clause-ended c) (returns-clause-place c)

@@ -4,6 +4,7 @@ use Rattle.p9_sched.specs.Kept.{IsSound}
 use Rattle.p9_sched.specs.Schedule.{Schedule}
 use Rattle.p9_sched.proofs.Sound.{made, room_new, few_live}
 use Rattle.p9_sched.proofs.Views.{place_id, made_view}
+use Rattle.p9_sched.proofs.Tracks.{tracks_made}
 use Rattle.p9_sched.proofs.sched.Sched.make_thread.Goals as goal
 
 pub join-requires-clause-room : goal.join-requires-clause-room
@@ -23,8 +24,11 @@ invariant_of-self c =
     let id = place_id c.self.inside c.args.self.now c.args.p c.self.view_is c.requires.place in
     rw (c.add-t.ensures.table, c.join.ensures) (made c.self.inside.table.threads c.self.inside.lanes c.add-t.result (fresh c.args.p c.args.program c.args.arg c.args.group) c.add-t.ensures.id refl id (omega arith) sound)
 
-pub returns : goal.returns
-returns c =
+pub returns-clause-made : goal.returns-clause-made
+returns-clause-made c =
     let few : length c.self.inside.table.threads < 65536 = omega arith in
     let view = made_view c.self.inside c.args.self.now c.args.p c.args.program c.args.arg c.args.group c.add-t.result c.self.view_is c.add-t.ensures.id in
-    (subst (λ (v : Schedule). length v.threads < 65536) c.self.view_is few, subst (λ (v : Schedule). c.add-t.result ≡ length v.threads + 1) c.self.view_is c.add-t.ensures.id, rw (c.add-t.ensures.table, c.join.ensures) view)
+    record { few = subst (λ (v : Schedule). length v.threads < 65536) c.self.view_is few; id = subst (λ (v : Schedule). c.add-t.result ≡ length v.threads + 1) c.self.view_is c.add-t.ensures.id; made = rw (c.add-t.ensures.table, c.join.ensures) view }
+
+pub returns-clause-stands : goal.returns-clause-stands
+returns-clause-stands c = tracks_made c.args.p c.args.program c.args.arg c.args.group c.args.self.now _ (returns-clause-made c).made c.requires.place

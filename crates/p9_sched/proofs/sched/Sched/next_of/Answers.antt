@@ -12,6 +12,7 @@ use Rattle.p9_sched.proofs.Lists.{id_of, changed_none, length-changed}
 use Rattle.p9_sched.proofs.Nexts.{next_thread, idle_there}
 use Rattle.p9_sched.proofs.Sound.{moved, same_id}
 use Rattle.p9_sched.proofs.Views.{seen_line, empty_line, slot_is, place_was, old_turn, new_turn, turn_seen, moved_view, new_place}
+use Rattle.p9_sched.proofs.Tracks.{tracks_turn}
 use Rattle.p9_sched.proofs.sched.Sched.next_of.Goals as goal
 use Rattle.p9_sched.proofs.sched.Sched.next_of.Goals.{in-Ready, in_default}
 
@@ -77,3 +78,9 @@ returns-clause-none c =
       λ h. elim c.match-replace.branch [ in-Ready w ↦ (let off : ⊥ = cc (h, w.result-is) in absurd off) | in_default w ↦ (let off : ⊥ = cc (h, w.result-is) in absurd off) ],
       λ h. let off : ⊥ = cc (h, line) in absurd off,
     )
+
+pub returns-in_err-t-clause-stands : goal.returns-in_err-t-clause-stands
+returns-in_err-t-clause-stands c = tracks_turn c.args.p _ c.args.self.now _ (returns-in_err-t-clause-turn c) c.requires.place
+
+pub returns-clause-stands : goal.returns-clause-stands
+returns-clause-stands c = tracks_turn c.args.p _ c.args.self.now _ (returns-clause-turn c) c.requires.place

@@ -1,5 +1,6 @@
 use Rattle.p9_sched.proofs.Sound.{roomy, reserve_sound}
 use Rattle.p9_sched.proofs.Views.{on_err, roomy_same, reserved_ok, reserved_err}
+use Rattle.p9_sched.proofs.Tracks.{tracks_rooms, tracks_reserved}
 use Rattle.p9_sched.proofs.sched.Sched.reserve.Goals as goal
 
 pub invariant_of-self : goal.invariant_of-self
@@ -22,3 +23,9 @@ returns-clause-ok c =
 pub returns-clause-err : goal.returns-clause-err
 returns-clause-err c =
     reserved_err c.reserve-2.result c.self.inside c.args.self.now c.reserve-2.new.self c.reserve.new.self c.reserve-2.ensures.err c.self.view_is c.reserve.ensures.same
+
+pub returns-in_err-reserve-clause-stands : goal.returns-in_err-reserve-clause-stands
+returns-in_err-reserve-clause-stands c = tracks_rooms _ c.args.self.now _ (roomy_same c.self.inside c.args.self.now c.reserve.new.self c.self.view_is c.reserve.ensures.same)
+
+pub returns-clause-stands : goal.returns-clause-stands
+returns-clause-stands c = tracks_reserved c.reserve-2.result c.args.self.now _ (returns-clause-ok c) (returns-clause-err c)

@@ -1,11 +1,17 @@
-use Rattle.std.proofs.Common.{refl}
+use Rattle.std.proofs.Common.{refl, ap}
 use Rattle.p9_manual.specs.Threads.{with_word}
 use Rattle.p9_sched.proofs.Lists.{item_at}
 use Rattle.p9_sched.proofs.Sound.{valued}
 use Rattle.p9_sched.proofs.Views.{made_id}
+use Rattle.p9_sched.specs.Schedule.{Schedule, with_word_of}
+use Rattle.p9_sched.proofs.Tracks.{tracks_changed}
 use Rattle.p9_sched.proofs.sched.Sched.set_word.Goals as goal
 
 pub invariant_of-self : goal.invariant_of-self
 invariant_of-self c =
     let at = item_at c.self.inside.table.threads c.args.t (made_id c.self.inside c.args.self.now c.args.t c.self.view_is c.requires) in
     rw c.set_word.ensures (valued c.self.inside.table.threads c.self.inside.lanes c.self.inside.table.rooms.thread c.args.t at.0 (with_word c.args.word) at.1 refl (λ q. record { lives = refl; runs = refl; ready = refl }) c.self.invariant)
+
+pub returns-clause-stands : goal.returns-clause-stands
+returns-clause-stands c =
+    tracks_changed (with_word c.args.word) (record { same = λ x. refl }) c.args.t c.args.self.now.rooms c.args.self.now _ (rw c.set_word.ensures (ap (λ (v : Schedule). with_word_of c.args.t c.args.word v) c.self.view_is))

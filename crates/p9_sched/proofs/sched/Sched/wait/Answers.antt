@@ -6,6 +6,7 @@ use Rattle.p9_sched.proofs.Keeping.{stopped_lane}
 use Rattle.p9_sched.proofs.Lists.{id_of}
 use Rattle.p9_sched.proofs.Sound.{moved, proc_is}
 use Rattle.p9_sched.proofs.Views.{away_here, slot_proc, stayed_view}
+use Rattle.p9_sched.proofs.Tracks.{tracks_waiting}
 use Rattle.p9_sched.proofs.sched.Sched.wait.Goals as goal
 
 pub slot-requires : goal.slot-requires
@@ -27,7 +28,10 @@ invariant_of-self c =
     let more = c.self.inside.table.rooms.thread in
     rw (c.put.ensures, c.stop.ensures) (moved c.self.inside.table.threads c.self.inside.lanes more c.args.t p a.thread Waiting (stopped c.args.t) a.there mine (λ l _. stopped_lane p c.self.inside.table.threads more l c.args.t a.thread a.there mine a.off_line a.alive) c.self.invariant)
 
-pub returns : goal.returns
-returns c =
+pub returns-clause-waits : goal.returns-clause-waits
+returns-clause-waits c =
     let p = c.slot.result.now.proc_no in
     rw (c.put.ensures, c.stop.ensures) (stayed_view c.self.inside c.args.self.now (placed c.args.t Waiting) (stopped c.args.t) p c.self.view_is (λ l. refl) (λ l. refl))
+
+pub returns-clause-stands : goal.returns-clause-stands
+returns-clause-stands c = λ request. tracks_waiting c.args.t request c.args.self.now _ (returns-clause-waits c)

@@ -1,0 +1,14 @@
+pub mod Alike
+pub mod AlikeDeals
+pub mod Alternates
+pub mod Closes
+pub mod Closing
+pub mod Drawn
+pub mod Frames
+pub mod InCalls
+pub mod Offering
+pub mod OnChannels
+pub mod Others
+pub mod Parties
+pub mod Verdicts
+pub mod Waken

@@ -1,0 +1,4 @@
+pub mod For
+pub mod Serves
+pub mod Spares
+pub mod Wakes

@@ -1,0 +1,17 @@
+//! The ioprocs of a machine: what each has to do, and the memory that its call needs. ioproc(2).
+//!
+//! [`IoBoard`] keeps a desk for each ioproc, by its number, with the buffers for the bytes of its call, and knows how
+//! many calls are begun.
+#![tactic(auto)]
+
+mod board;
+mod desk;
+mod desks;
+mod effects;
+mod ioprocs;
+
+pub use board::IoBoard;
+pub use effects::Finished;
+
+#[cfg(test)]
+mod tests;

@@ -1,0 +1,115 @@
+-- What a posted call and the effect of a begun one come to.
+use Rattle.std.proofs.Common.{◌≡◌, ℕ, Bool, true, false, List, Option, Some, None, refl, sym, ap, subst, ◌∙◌}
+use Rattle.std.specs.Prelude.{if◌then◌else◌, nat_lt}
+use Rattle.p9_word.specs.declared.answer.IoAnswer.{IoAnswer}
+use Rattle.p9_word.specs.declared.io_call.IoCall.{IoCall}
+use Rattle.p9_word.specs.declared.io_call.Effect.{Effect}
+use Rattle.p9_word.specs.declared.request.Request.TheVariants.{Io as IoRequest}
+use Rattle.p9_word.specs.declared.request.IoReq.TheVariants.{IoRun}
+use Rattle.p9_word.specs.declared.setup.Setup.{Setup}
+use Rattle.p9_word.specs.declared.trail.Reply.{Reply}
+use Rattle.p9_word.specs.declared.trail.Reply.TheVariants.{Waits, Noted}
+use Rattle.p9_manual.specs.declared.state.Ioproc.{Ioproc}
+use Rattle.p9_manual.specs.declared.state.Ioproc.TheVariants.{Unmade, Idle, Posted, Begun, Closed}
+use Rattle.p9_manual.specs.Effects.{fits, message_length}
+use Rattle.p9_manual.specs.Ioprocs.{post_call, did_call, answered, effect_answer, with_ioproc}
+use Rattle.p9_manual.specs.Offers.{parties}
+use Rattle.p9_manual.specs.Sound.{IsSound}
+use Rattle.p9_manual.specs.State.{State, Outcome, by_id, replied, waiting}
+use Rattle.p9_sched.specs.Schedule.{Schedule}
+use Rattle.p9_sched.specs.Stands.{SchedFor, Tracks as SchedTracks}
+use Rattle.p9_io.specs.declared.effects.Finished.{Finished}
+use Rattle.p9_io.specs.Calls.{finish_of}
+use Rattle.p9_io.specs.Desks.{Desks}
+use Rattle.p9_io.specs.Stands.{IoFor}
+use Rattle.p9_io_calls.specs.Serves.{StandSound, Serves, with_answer}
+use Rattle.p9_io_calls.proofs.Calling.{parties_more, caller_in_call}
+
+-- the threads stand for those of a state with other ioprocs
+pub sched_io : (places : ℕ) (sched : Schedule) (s : State) (ios : List Ioproc) → SchedFor places sched s → SchedFor places sched (record s { ioprocs = ios })
+sched_io places sched s ios h = record { threads = h.threads; lines = h.lines; procs = h.procs; opened = h.opened; count = h.count }
+
+serves_by : (setup : Setup) (s : State) (o p : Outcome) (reply : Reply) (sched : Schedule) (desks : Desks) → o ≡ p → Serves setup s p reply sched desks → Serves setup s o reply sched desks
+serves_by setup s o p reply sched desks e h = subst (λ (x : Outcome). Serves setup s x reply sched desks) (sym e) h
+
+if_false : {A : Type 0} (b : Bool) (x y : A) → b ≡ false → (if b then x else y) ≡ y
+if_false true x y e = cc
+if_false false x y e = refl
+
+if_true : {A : Type 0} (b : Bool) (x y : A) → b ≡ true → (if b then x else y) ≡ x
+if_true true x y e = refl
+if_true false x y e = cc
+
+-- a call that is posted at an idle ioproc
+post_waits : (t k : ℕ) (call : IoCall) (s : State) (o : Option Ioproc) → o ≡ Some Idle → nat_lt 4294967295 (message_length call) ≡ false → post_call t k call s o ≡ waiting t (IoRequest (IoRun k call)) (with_ioproc k (Posted t call) s)
+post_waits t k call s o e h = rw e (if_false _ _ _ h)
+
+pub serves_posted : (setup : Setup) (s : State) (t k : ℕ) (call : IoCall) (sched : Schedule) (desks : Desks) → by_id s.ioprocs k ≡ Some Idle → nat_lt 4294967295 (message_length call) ≡ false → (SchedFor setup.places sched (waiting t (IoRequest (IoRun k call)) (with_ioproc k (Posted t call) s)).state) → IoFor desks (with_ioproc k (Posted t call) s) → Serves setup s (post_call t k call s (by_id s.ioprocs k)) Waits sched desks
+serves_posted setup s t k call sched desks found short threads ioprocs =
+    serves_by setup s _ _ Waits sched desks (post_waits t k call s _ found short) (record {
+      reply_is = refl;
+      threads = threads;
+      ioprocs = record { ioprocs = ioprocs.ioprocs };
+      others = refl;
+      alts = parties_more s.waits (record { tid = t; request = IoRequest (IoRun k call); at = s.entries }) refl;
+    })
+
+-- a finished call was begun, and its effect fits it
+pub record Told (effect : Effect) (f : Finished) (o : Option Ioproc) : Type 0 where
+  pub call : IoCall
+  pub is : o ≡ Some (Begun f.caller call)
+  pub fitting : fits call effect ≡ true
+  pub answer : f.answer ≡ effect_answer effect
+
+by_fit : (b : Bool) (f g : Finished) → Some f ≡ (if b then Some g else None) → (b ≡ true) × (f ≡ g)
+by_fit true f g e = (refl, some_is f g e)
+  where
+    some_is : (x y : Finished) → Some x ≡ Some y → x ≡ y
+    some_is x y e = cc
+by_fit false f g e = absurd (cc e)
+
+pub told : (effect : Effect) (f : Finished) (o : Option Ioproc) → Some f ≡ finish_of effect o → Told effect f o
+told effect f None e = absurd (cc e)
+told effect f (Some Unmade) e = absurd (cc e)
+told effect f (Some Idle) e = absurd (cc e)
+told effect f (Some (Posted t call)) e = absurd (cc e)
+told effect f (Some Closed) e = absurd (cc e)
+told effect f (Some (Begun t call)) e =
+    let h = by_fit (fits call effect) f (record { caller = t; answer = effect_answer effect }) e in
+    record {
+      call = call;
+      is = ap (λ (u : Option ℕ). Some (Begun u call)) (sym (ap (λ (x : Finished). x.caller) h.1));
+      fitting = h.0;
+      answer = ap (λ (x : Finished). x.answer) h.1;
+    }
+
+answered_is : (caller : Option ℕ) (answer : IoAnswer) (effect : Effect) (s : State) → answer ≡ effect_answer effect → answered caller effect s ≡ with_answer caller answer s
+answered_is None answer effect s e = refl
+answered_is (Some t) answer effect s e = rw e refl
+
+-- so the outcome of what is told is noted
+noted : (k : ℕ) (effect : Effect) (s : State) (f : Finished) (o : Option Ioproc) → Told effect f o → did_call k effect s o ≡ replied Noted (with_answer f.caller f.answer (with_ioproc k Idle s))
+noted k effect s f o h = rw h.is (if_true _ _ _ h.fitting ∙ ap (λ (n : State). replied Noted n) (answered_is f.caller f.answer effect (with_ioproc k Idle s) h.answer))
+
+io_answered : (caller : Option ℕ) (answer : IoAnswer) (desks : Desks) (s : State) → IoFor desks s → IoFor desks (with_answer caller answer s)
+io_answered None answer desks s h = h
+io_answered (Some t) answer desks s h = record { ioprocs = h.ioprocs }
+
+others_answered : (caller : Option ℕ) (answer : IoAnswer) (s : State) (ios : List Ioproc) → let n : State = with_answer caller answer (record s { ioprocs = ios }) in n ≡ record s { threads = n.threads; line = n.line; waits = n.waits; ioprocs = n.ioprocs }
+others_answered None answer s ios = refl
+others_answered (Some t) answer s ios = refl
+
+alts_answered : (setup : Setup) (s : State) (ios : List Ioproc) (k : ℕ) (caller : Option ℕ) (answer : IoAnswer) (call : IoCall) → IsSound setup s → by_id s.ioprocs k ≡ Some (Begun caller call) → parties (with_answer caller answer (record s { ioprocs = ios })).waits ≡ parties s.waits
+alts_answered setup s ios k None answer call sound e = refl
+alts_answered setup s ios k (Some t) answer call sound e = caller_in_call setup s k t call sound e
+
+pub serves_noted : (setup : Setup) (s : State) (k : ℕ) (effect : Effect) (f : Finished) (old sched : Schedule) (before desks : Desks) → StandSound old before setup s → Some f ≡ finish_of effect (by_id before.ioprocs k) → SchedTracks (with_answer f.caller f.answer) old sched → IoFor desks (with_ioproc k Idle s) → Serves setup s (did_call k effect s (by_id s.ioprocs k)) Noted sched desks
+serves_noted setup s k effect f old sched before desks stands e threads ioprocs =
+    let h = told effect f (by_id s.ioprocs k) (rw stands.ioprocs.ioprocs e) in
+    serves_by setup s _ _ Noted sched desks (noted k effect s f _ h) (record {
+      reply_is = refl;
+      threads = threads setup.places (with_ioproc k Idle s) (sched_io _ _ s _ stands.threads);
+      ioprocs = io_answered f.caller f.answer desks (with_ioproc k Idle s) ioprocs;
+      others = others_answered f.caller f.answer s _;
+      alts = alts_answered setup s _ k f.caller f.answer h.call stands.sound h.is;
+    })

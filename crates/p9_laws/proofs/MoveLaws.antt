@@ -1,0 +1,144 @@
+-- What can happen in a state that isn't stuck.
+use Rattle.std.proofs.Common.{◌≡◌, ◌≢◌, ℕ, Bool, true, false, not, cond, ◌&&◌, ◌||◌, eqb, leb, List, [], ◌∷◌, Option, Some, None, refl, sym, subst, ◌∙◌, arith, rules, tests}
+use Rattle.std.specs.Prelude.{option_map}
+use Rattle.std.specs.List.{list_any}
+use Rattle.std.proofs.lemmas.Bool.{le-leb, eqb-true}
+use Rattle.p9_word.specs.declared.io_call.IoCall.{IoCall}
+use Rattle.p9_word.specs.declared.io_call.IoCall.TheVariants.{IoOpen, IoReadN, IoWrite, IoClose}
+use Rattle.p9_word.specs.declared.io_call.Effect.TheVariants.{Refused}
+use Rattle.p9_word.specs.declared.request.Request.TheVariants.{Thread as ThreadRequest}
+use Rattle.p9_word.specs.declared.request.ThreadReq.TheVariants.{ThreadExits}
+use Rattle.p9_word.specs.declared.setup.Setup.{Setup}
+use Rattle.p9_word.specs.declared.trail.Event.{Event}
+use Rattle.p9_word.specs.declared.trail.Event.TheVariants.{Call, Next, IoTake, IoDid}
+use Rattle.p9_word.specs.declared.trail.Reply.{Reply}
+use Rattle.p9_word.specs.declared.trail.Reply.TheVariants.{Ended as EndedReply, Took, Noted, Stuck}
+use Rattle.p9_word.specs.declared.trail.Seat.{Seat}
+use Rattle.p9_word.specs.declared.trail.Seat.TheVariants.{Proc, Io}
+use Rattle.p9_manual.specs.declared.state.Place.{Place}
+use Rattle.p9_manual.specs.declared.state.Place.TheVariants.{Running, New, Ready, Waiting, Ended}
+use Rattle.p9_manual.specs.declared.state.Thread.{Thread}
+use Rattle.p9_manual.specs.declared.state.Ioproc.{Ioproc}
+use Rattle.p9_manual.specs.declared.state.Ioproc.TheVariants.{Unmade, Idle, Posted, Begun, Closed}
+use Rattle.p9_manual.specs.State.{State, by_id, pick, behind}
+use Rattle.p9_manual.specs.Places.{is_of, runs, runs_in, runs_there, lives, lives_in, stands_ready, has_call, is_ready}
+use Rattle.p9_manual.specs.Threads.{thread_call, asked}
+use Rattle.p9_manual.specs.Effects.{fits}
+use Rattle.p9_manual.specs.Ioprocs.{io_event}
+use Rattle.p9_manual.specs.Next.{next_event, next_of, turn, turn_reply, started, is_place, is_over}
+use Rattle.p9_manual.specs.Step.{step, outcome, called, served, makes_entry}
+use Rattle.p9_laws.specs.StuckReplies.{CanMove, is_ready_thread, IsLined, UnstuckMoves}
+use Rattle.p9_laws.proofs.StuckLaws.{any_at, found, clash, in_line_ready, no_runs_in}
+
+-- some event makes an entry
+can_move : (setup : Setup) (s : State) (seat : Seat) (event : Event) (r : Reply) → (step setup seat event s).reply ≡ r → makes_entry r ≡ true → r ≢ Stuck → CanMove setup s
+can_move setup s seat event r e makes moves =
+    record { seat = seat; event = event; makes = rw e makes; moves = rw e moves }
+
+ends_reply : (setup : Setup) (p t : ℕ) (s : State) (x : Thread) → by_id s.threads t ≡ Some x → runs_there p (Some x) ≡ true → (step setup (Proc p) (Call t (ThreadRequest (ThreadExits []))) s).reply ≡ EndedReply
+unfolding step outcome called served thread_call asked
+ends_reply setup p t s x at runs = rw (at, runs) refl
+
+one_ends : (setup : Setup) (s : State) → list_any runs s.threads ≡ true → CanMove setup s
+one_ends setup s some =
+    let f = found runs s.threads some in
+    let same : eqb f.1.proc_no f.1.proc_no ≡ true = search (rules, tests) in
+    let there : runs_there f.1.proc_no (Some f.1) ≡ true = rw same (f.3) in
+    can_move setup s (Proc f.1.proc_no) (Call f.0 (ThreadRequest (ThreadExits []))) EndedReply (ends_reply setup f.1.proc_no f.0 s f.1 f.2 there) refl (λ e. cc)
+
+-- a reply that makes an entry and isn't Stuck
+abbrev pub Moves : Reply → Type 0
+Moves r = (makes_entry r ≡ true) × (r ≢ Stuck)
+
+turn_moves : (t : ℕ) (x : Thread) (pl : Place) → is_ready pl ≡ true → Moves (turn_reply t (x.program, x.arg, pl))
+turn_moves t x New h = (refl, λ e. cc)
+turn_moves t x (Ready a) h = (refl, λ e. cc)
+turn_moves t x Running h = cc
+turn_moves t x Waiting h = cc
+turn_moves t x Ended h = cc
+
+turned_moves : (t : ℕ) (s : State) (o : Option Thread) → is_ready_thread o ≡ true → Moves (turn t s (option_map started o)).reply
+turned_moves t s None h = cc
+turned_moves t s (Some x) h = turn_moves t x x.place h
+
+pick_none_step : {A : Type 0} (p : A → Bool) (b : Bool) (x : A) (xs : List A) (r : Option (A × List A)) → cond b (Some (x, xs)) (behind x r) ≡ None → (b ≡ false) × (r ≡ None)
+pick_none_step p true x xs r e = cc
+pick_none_step p false x xs None e = (refl, refl)
+pick_none_step p false x xs (Some found) e = cc
+
+pick_none : {A : Type 0} (p q : A → Bool) → ((x : A) → q x ≡ true → p x ≡ true) → (xs : List A) → pick p xs ≡ None → list_any q xs ≡ true → ⊥
+pick_none p q h [] e some = cc
+pick_none p q h (x ∷ xs) e some = let parts = pick_none_step p (p x) x xs (pick p xs) e in neither (q x) (λ yes. clash (p x) (h x yes) parts.0) some (pick_none p q h xs parts.1)
+  where
+    neither : (b : Bool) → (b ≡ true → ⊥) → (b || list_any q xs) ≡ true → (list_any q xs ≡ true → ⊥) → ⊥
+    neither true f s g = f refl
+    neither false f s g = g s
+
+next_of_moves : (setup : Setup) (s : State) (p : ℕ → Bool) (t : ℕ) (o : Option (ℕ × List ℕ)) → pick p s.line ≡ o → IsLined setup s → list_any (λ u. eqb u t) s.line ≡ true → p t ≡ true → Moves (next_of s o).reply
+next_of_moves setup s p t None e lined some passes = absurd (pick_none p (λ u. eqb u t) (λ u h. subst (λ (x : ℕ). p x ≡ true) (sym (eqb-true u t h)) passes) s.line e some)
+next_of_moves setup s p t (Some found) e lined some passes = turned_moves found.0 _ (by_id s.threads found.0) (in_line_ready setup s p found.0 found.1 lined e)
+
+ready_lives : (p : ℕ) (x : Thread) (pl : Place) → x.place ≡ pl → is_ready pl ≡ true → eqb x.proc_no p ≡ true → lives_in p x ≡ true
+ready_lives p x New is h of = rw (of, is) refl
+ready_lives p x (Ready a) is h of = rw (of, is) refl
+ready_lives p x Running is h of = cc
+ready_lives p x Waiting is h of = cc
+ready_lives p x Ended is h of = cc
+
+turn_step : (setup : Setup) (p : ℕ) (s : State) → is_place setup p ≡ true → is_over p s ≡ false → list_any (runs_in p) s.threads ≡ false → Moves (next_of s (pick (λ t. is_of p (by_id s.threads t)) s.line)).reply → Moves (step setup (Proc p) Next s).reply
+unfolding step outcome next_event
+turn_step setup p s place over none h = rw (place, over, none) h
+
+not_over : (p : ℕ) (s : State) → s.over ≡ false → leb p s.opened ≡ true → list_any (lives_in p) s.threads ≡ true → is_over p s ≡ false
+not_over p s over opened some = rw (over, opened, some) refl
+
+one_has_turn : (setup : Setup) (s : State) → IsLined setup s → s.over ≡ false → list_any runs s.threads ≡ false → list_any stands_ready s.threads ≡ true → CanMove setup s
+one_has_turn setup s lined over none some =
+    let f = found stands_ready s.threads some in
+    let p : ℕ = f.1.proc_no in
+    let of : eqb f.1.proc_no f.1.proc_no ≡ true = search (rules, tests) in
+    let proc = lined.procs f.0 f.1 f.2 in
+    let low : leb 1 f.1.proc_no ≡ true = le-leb 1 f.1.proc_no proc.0 in
+    let high : leb f.1.proc_no setup.places ≡ true = le-leb f.1.proc_no setup.places (let o = lined.opened in let h = proc.1 in omega (arith, o, h)) in
+    let place : is_place setup f.1.proc_no ≡ true = rw (low, high) refl in
+    let opened : leb f.1.proc_no s.opened ≡ true = le-leb f.1.proc_no s.opened proc.1 in
+    let live : list_any (lives_in f.1.proc_no) s.threads ≡ true = any_at (lives_in f.1.proc_no) s.threads f.0 f.1 f.2 (ready_lives f.1.proc_no f.1 f.1.place refl f.3 of) in
+    let ready : is_ready_thread (by_id s.threads f.0) ≡ true = rw (f.2) (f.3) in
+    let in_line : list_any (λ u. eqb u f.0) s.line ≡ true = sym (lined.ready f.0) ∙ ready in
+    let passes : is_of f.1.proc_no (by_id s.threads f.0) ≡ true = rw (f.2) of in
+    let m = turn_step setup f.1.proc_no s place (not_over f.1.proc_no s over opened live) (no_runs_in f.1.proc_no s.threads none)
+    (next_of_moves setup s (λ t. is_of f.1.proc_no (by_id s.threads t)) f.0 (pick (λ t. is_of f.1.proc_no (by_id s.threads t)) s.line) refl lined in_line passes) in
+    record { seat = Proc f.1.proc_no; event = Next; makes = m.0; moves = m.1 }
+
+always_refused : (call : IoCall) → fits call Refused ≡ true
+always_refused IoOpen = refl
+always_refused (IoReadN n) = refl
+always_refused (IoWrite m) = refl
+always_refused IoClose = refl
+
+take_reply : (setup : Setup) (k t : ℕ) (call : IoCall) (s : State) → by_id s.ioprocs k ≡ Some (Posted t call) → s.over ≡ false → list_any lives s.threads ≡ true → (step setup (Io k) IoTake s).reply ≡ Took call
+unfolding step outcome io_event
+take_reply setup k t call s at over live = rw (at, over, live) refl
+
+did_reply : (setup : Setup) (k : ℕ) (t : Option ℕ) (call : IoCall) (s : State) → by_id s.ioprocs k ≡ Some (Begun t call) → (step setup (Io k) (IoDid Refused) s).reply ≡ Noted
+unfolding step outcome io_event
+did_reply setup k t call s at = rw (at, always_refused call) refl
+
+call_moves : (setup : Setup) (s : State) (k : ℕ) (io : Ioproc) → by_id s.ioprocs k ≡ Some io → has_call io ≡ true → s.over ≡ false → list_any lives s.threads ≡ true → CanMove setup s
+call_moves setup s k (Posted t call) at h over live = can_move setup s (Io k) IoTake (Took call) (take_reply setup k t call s at over live) refl (λ e. cc)
+call_moves setup s k (Begun t call) at h over live = can_move setup s (Io k) (IoDid Refused) Noted (did_reply setup k t call s at) refl (λ e. cc)
+call_moves setup s k Unmade at h over live = cc
+call_moves setup s k Idle at h over live = cc
+call_moves setup s k Closed at h over live = cc
+
+one_has_call : (setup : Setup) (s : State) → list_any has_call s.ioprocs ≡ true → s.over ≡ false → list_any lives s.threads ≡ true → CanMove setup s
+one_has_call setup s some over live = let f = found has_call s.ioprocs some in call_moves setup s f.0 f.1 f.2 f.3 over live
+
+moves_by : (setup : Setup) (s : State) (b c d : Bool) → list_any runs s.threads ≡ b → list_any stands_ready s.threads ≡ c → list_any has_call s.ioprocs ≡ d → IsLined setup s → s.over ≡ false → list_any lives s.threads ≡ true → (true && not b && not c && not d) ≡ false → CanMove setup s
+moves_by setup s true c d runs ready calls lined over live h = one_ends setup s runs
+moves_by setup s false true d runs ready calls lined over live h = one_has_turn setup s lined over runs ready
+moves_by setup s false false true runs ready calls lined over live h = one_has_call setup s calls over live
+moves_by setup s false false false runs ready calls lined over live h = cc
+
+pub unstuck_moves : (setup : Setup) (s : State) → UnstuckMoves setup s
+unstuck_moves setup s lined over live unstuck = moves_by setup s _ _ _ refl refl refl lined over live (rw live at unstuck)

@@ -1,0 +1,12 @@
+pub mod Rising
+pub mod Counted
+pub mod Senders
+pub mod Sent
+pub mod Kept
+pub mod Elements
+pub mod Deals
+pub mod Verdicts
+pub mod Requests
+pub mod Moved
+pub mod Steps
+pub mod Laws

@@ -1,0 +1,160 @@
+-- The requests that are no alts, and the events that are no calls, keep what is known of the values on channels.
+use Rattle.std.proofs.Common.{◌≡◌, ℕ, ◌-◌, Bool, true, false, not, cond, ◌||◌, List, [], ◌∷◌, ◌++◌, Option, Some, None, refl, sym, ◌∙◌}
+use Rattle.std.specs.Prelude.{option_map, nat_lt}
+use Rattle.std.specs.List.{filter, list_any}
+use Rattle.std.proofs.lemmas.List.{append-nil}
+use Rattle.p9_word.specs.declared.answer.Answer.{Answer}
+use Rattle.p9_word.specs.declared.setup.Setup.{Setup}
+use Rattle.p9_word.specs.declared.trail.Entry.{Entry}
+use Rattle.p9_word.specs.declared.request.ThreadReq.{ThreadReq}
+use Rattle.p9_word.specs.declared.request.ChanReq.{ChanReq}
+use Rattle.p9_word.specs.declared.request.Request.TheVariants.{Io as IoRequest}
+use Rattle.p9_word.specs.declared.request.IoReq.{IoReq}
+use Rattle.p9_word.specs.declared.request.IoReq.TheVariants.{IoProc, IoRun, CloseIoProc}
+use Rattle.p9_word.specs.declared.io_call.IoCall.{IoCall}
+use Rattle.p9_word.specs.declared.io_call.Effect.{Effect}
+use Rattle.p9_manual.specs.declared.state.Channel.{Channel}
+use Rattle.p9_manual.specs.declared.state.Ioproc.{Ioproc}
+use Rattle.p9_manual.specs.declared.state.Ioproc.TheVariants.{Unmade, Idle, Posted, Begun, Closed}
+use Rattle.p9_manual.specs.declared.state.Party.{Party}
+use Rattle.p9_manual.specs.declared.state.Place.{Place}
+use Rattle.p9_manual.specs.declared.state.Waiter.{Waiter}
+use Rattle.p9_manual.specs.Offers.{parties}
+use Rattle.p9_manual.specs.Chans.{empty_channel, on_channel}
+use Rattle.p9_manual.specs.Close.{closed_chan, freed_chan, all_failed, all_woken}
+use Rattle.p9_manual.specs.Effects.{fits, message_length}
+use Rattle.p9_manual.specs.Ioprocs.{with_ioproc, make, post_call, close_ioproc, io_call, take_call, answered, did_call, io_event}
+use Rattle.p9_manual.specs.Next.{next_event, next_of, turn, is_place, is_over, started}
+use Rattle.p9_manual.specs.Places.{lives, runs_in, is_of}
+use Rattle.p9_manual.specs.State.{Move, State, Outcome, by_id, changed, pick, waits_without, wake}
+use Rattle.p9_manual.specs.Stuck.{is_stuck}
+use Rattle.p9_manual.specs.Threads.{thread_call}
+use Rattle.p9_laws.proofs.AskedChans.{DoesToChans, Tells, MakesChannel, FreesChannel, ClosesChannel, on_channel_does}
+use Rattle.p9_laws.proofs.Asked.{Does, Answers, ChangesCaller, ChangesProcs, MakesThread, MakesProc, GivesWay, Ends, EndsAll, thread_call_does}
+use Rattle.p9_laws.proofs.Sound.Parties.{parties_push, parties_without}
+use Rattle.p9_laws.proofs.Moves.Senders.{not_of}
+use Rattle.p9_laws.proofs.Moves.Kept.{Kept, kept_less, kept_changed, kept_created}
+use Rattle.p9_laws.proofs.Moves.Verdicts.{KeptIn}
+
+-- what was kept before is kept after
+abbrev pub Leaves : State → State → Type 0
+Leaves s later = (H : List Entry) (n : ℕ) (ms : List Move) → KeptIn H n ms s → KeptIn H n ms later
+
+if_leaves : (s : State) (b : Bool) (o p : Outcome) → Leaves s o.state → Leaves s p.state → Leaves s (cond b o p).state
+if_leaves s true o p f g = f
+if_leaves s false o p f g = g
+
+-- thread t no longer waits
+without_leaves : (t : ℕ) (H : List Entry) (n : ℕ) (ms : List Move) (chans : List Channel) (waits : List Waiter) → Kept H n ms chans (parties waits) → Kept H n ms chans (parties (waits_without t waits))
+without_leaves t H n ms chans waits k = rw (parties_without t waits) (kept_less (not_of t) H n ms chans (parties waits) k)
+
+none_pass : (waits : List Party) → filter (λ w. false) waits ≡ []
+none_pass [] = refl
+none_pass (w ∷ ws) = none_pass ws
+
+-- nobody waits any more
+nobody_left : (H : List Entry) (n : ℕ) (ms : List Move) (chans : List Channel) (waits : List Party) → Kept H n ms chans waits → Kept H n ms chans []
+nobody_left H n ms chans waits k = rw (sym (none_pass waits)) (kept_less (λ w. false) H n ms chans waits k)
+
+asked_leaves : (setup : Setup) (t : ℕ) (s : State) (o : Outcome) → Does setup t s o → Leaves s o.state
+asked_leaves setup t s _ (Answers x) = λ H n ms k. k
+asked_leaves setup t s _ (ChangesCaller f caller x at leaves grants) = λ H n ms k. k
+asked_leaves setup t s _ (ChangesProcs procs x grants) = λ H n ms k. k
+asked_leaves setup t s _ (MakesThread program arg caller at own) = λ H n ms k. k
+asked_leaves setup t s _ (MakesProc program arg caller at own room) = λ H n ms k. k
+asked_leaves setup t s _ GivesWay = λ H n ms k. k
+asked_leaves setup t s _ Ends = λ H n ms k. without_leaves t H n ms s.chans s.waits k
+asked_leaves setup t s _ EndsAll = λ H n ms k. nobody_left H n ms s.chans (parties s.waits) k
+
+pub thread_call_leaves : (setup : Setup) (t : ℕ) (r : ThreadReq) (s : State) → Leaves s (thread_call setup t r s).state
+thread_call_leaves setup t r s = asked_leaves setup t s _ (thread_call_does setup t r s)
+
+woken_leaves : (ws : List (ℕ × Answer)) (s : State) → Leaves s (all_woken ws s)
+woken_leaves [] s H n ms k = k
+woken_leaves (w ∷ ws) s H n ms k = woken_leaves ws (wake w.0 w.1 s) H n ms (without_leaves w.0 H n ms s.chans s.waits k)
+
+chans_leave : (s : State) (o : Outcome) → DoesToChans s o → Leaves s o.state
+chans_leave s _ (Tells x) = λ H n ms k. k
+chans_leave s _ (MakesChannel cap elsize) = λ H n ms k. kept_created (empty_channel cap elsize) refl H n ms s.chans (parties s.waits) k
+chans_leave s _ (FreesChannel c chan there) = λ H n ms k. kept_changed freed_chan (λ x. refl) (λ x. refl) H n ms s.chans (parties s.waits) c chan there k
+chans_leave s _ (ClosesChannel c chan there) =
+    λ H n ms k. woken_leaves (all_failed c (parties s.waits)) (record s { chans = changed closed_chan s.chans (c - 1) }) H n ms
+    (kept_changed closed_chan (λ x. refl) (λ x. refl) H n ms s.chans (parties s.waits) c chan there k)
+
+pub on_channel_leaves : (r : ChanReq) (s : State) → Leaves s (on_channel r s).state
+on_channel_leaves r s = chans_leave s _ (on_channel_does r s)
+
+-- a call through an ioproc is no alt
+calling_leaves : (t k at : ℕ) (call : IoCall) (waits : List Waiter) → parties (waits ++ record { tid = t; request = IoRequest (IoRun k call); at = at } ∷ []) ≡ parties waits
+calling_leaves t k at call waits = parties_push waits (record { tid = t; request = IoRequest (IoRun k call); at = at }) ∙ append-nil (parties waits)
+
+make_leaves : (k : ℕ) (s : State) (o : Option Ioproc) → Leaves s (make k s o).state
+make_leaves k s (Some Unmade) = λ H n ms h. h
+make_leaves k s (Some Idle) = λ H n ms h. h
+make_leaves k s (Some (Posted t call)) = λ H n ms h. h
+make_leaves k s (Some (Begun t call)) = λ H n ms h. h
+make_leaves k s (Some Closed) = λ H n ms h. h
+make_leaves k s None = λ H n ms h. h
+
+post_call_leaves : (t k : ℕ) (call : IoCall) (s : State) (o : Option Ioproc) → Leaves s (post_call t k call s o).state
+post_call_leaves t k call s (Some Idle) =
+    if_leaves s (nat_lt 4294967295 (message_length call)) _ _ (λ H n ms h. h) (λ H n ms h. rw (calling_leaves t k s.entries call s.waits) h)
+post_call_leaves t k call s (Some Unmade) = λ H n ms h. h
+post_call_leaves t k call s (Some (Posted u other)) = λ H n ms h. h
+post_call_leaves t k call s (Some (Begun u other)) = λ H n ms h. h
+post_call_leaves t k call s (Some Closed) = λ H n ms h. h
+post_call_leaves t k call s None = λ H n ms h. h
+
+close_ioproc_leaves : (k : ℕ) (s : State) (o : Option Ioproc) → Leaves s (close_ioproc k s o).state
+close_ioproc_leaves k s (Some Idle) = λ H n ms h. h
+close_ioproc_leaves k s (Some Unmade) = λ H n ms h. h
+close_ioproc_leaves k s (Some (Posted t call)) = λ H n ms h. h
+close_ioproc_leaves k s (Some (Begun t call)) = λ H n ms h. h
+close_ioproc_leaves k s (Some Closed) = λ H n ms h. h
+close_ioproc_leaves k s None = λ H n ms h. h
+
+pub io_call_leaves : (setup : Setup) (t : ℕ) (r : IoReq) (s : State) → Leaves s (io_call setup t r s).state
+unfolding io_call
+io_call_leaves setup t (IoProc k) s = make_leaves k s (by_id s.ioprocs k)
+io_call_leaves setup t (IoRun k call) s = post_call_leaves t k call s (by_id s.ioprocs k)
+io_call_leaves setup t (CloseIoProc k) s = close_ioproc_leaves k s (by_id s.ioprocs k)
+
+take_call_leaves : (k : ℕ) (s : State) (o : Option Ioproc) → Leaves s (take_call k s o).state
+take_call_leaves k s None = λ H n ms h. h
+take_call_leaves k s (Some Closed) = λ H n ms h. h
+take_call_leaves k s (Some (Begun t call)) = if_leaves s (s.over || not (list_any lives s.threads)) _ _ (λ H n ms h. h) (λ H n ms h. h)
+take_call_leaves k s (Some (Posted t call)) = if_leaves s (s.over || not (list_any lives s.threads)) _ _ (λ H n ms h. h) (λ H n ms h. h)
+take_call_leaves k s (Some Unmade) = if_leaves s (s.over || not (list_any lives s.threads)) _ _ (λ H n ms h. h) (λ H n ms h. h)
+take_call_leaves k s (Some Idle) = if_leaves s (s.over || not (list_any lives s.threads)) _ _ (λ H n ms h. h) (λ H n ms h. h)
+
+answered_leaves : (o : Option ℕ) (effect : Effect) (k : ℕ) (s : State) → Leaves s (answered o effect (with_ioproc k Idle s))
+answered_leaves None effect k s = λ H n ms h. h
+answered_leaves (Some t) effect k s = λ H n ms h. without_leaves t H n ms s.chans s.waits h
+
+did_call_leaves : (k : ℕ) (effect : Effect) (s : State) (o : Option Ioproc) → Leaves s (did_call k effect s o).state
+did_call_leaves k effect s (Some (Begun t call)) = if_leaves s (fits call effect) _ _ (answered_leaves t effect k s) (λ H n ms h. h)
+did_call_leaves k effect s (Some Unmade) = λ H n ms h. h
+did_call_leaves k effect s (Some Idle) = λ H n ms h. h
+did_call_leaves k effect s (Some (Posted t call)) = λ H n ms h. h
+did_call_leaves k effect s (Some Closed) = λ H n ms h. h
+did_call_leaves k effect s None = λ H n ms h. h
+
+pub io_event_leaves : (k : ℕ) (s : State) (o : Option Effect) → Leaves s (io_event k s o).state
+unfolding io_event
+io_event_leaves k s None = take_call_leaves k s (by_id s.ioprocs k)
+io_event_leaves k s (Some effect) = did_call_leaves k effect s (by_id s.ioprocs k)
+
+turn_leaves : (t : ℕ) (line : List ℕ) (s : State) (o : Option (ℕ × ℕ × Place)) → Leaves s (turn t (record s { line = line }) o).state
+turn_leaves t line s None = λ H n ms k. k
+turn_leaves t line s (Some start) = λ H n ms k. k
+
+next_of_leaves : (s : State) (o : Option (ℕ × List ℕ)) → Leaves s (next_of s o).state
+next_of_leaves s None = if_leaves s (is_stuck s) _ _ (λ H n ms k. k) (λ H n ms k. k)
+next_of_leaves s (Some found) = turn_leaves found.0 found.1 s (option_map started (by_id s.threads found.0))
+
+pub next_event_leaves : (setup : Setup) (p : ℕ) (s : State) → Leaves s (next_event setup p s).state
+unfolding next_event
+next_event_leaves setup p s =
+    if_leaves s (not (is_place setup p)) _ _ (λ H n ms k. k)
+    (if_leaves s (is_over p s) _ _ (λ H n ms k. k)
+    (if_leaves s (list_any (runs_in p) s.threads) _ _ (λ H n ms k. k) (next_of_leaves s (pick (λ t. is_of p (by_id s.threads t)) s.line))))

@@ -1,0 +1,12 @@
+pub mod Places
+pub mod Grows
+pub mod Agrees
+pub mod Told
+pub mod Deals
+pub mod Outcomes
+pub mod Alts
+pub mod Requests
+pub mod Turns
+pub mod Steps
+pub mod Histories
+pub mod Laws

@@ -1,0 +1,133 @@
+-- The requests that move no value.
+use Rattle.std.proofs.Common.{◌≡◌, ℕ, ◌+◌, ◌-◌, ◌≤◌, Bool, true, false, ltb, List, [], ◌∷◌, ◌++◌, length, Option, Some, None, refl, sym, subst}
+use Rattle.std.specs.Prelude.{map}
+use Rattle.std.specs.List.{filter}
+use Rattle.p9_manual.specs.declared.state.Party.{Party}
+use Rattle.p9_word.specs.declared.answer.Answer.{Answer}
+use Rattle.p9_word.specs.declared.answer.Answer.TheVariants.{Done, Number}
+use Rattle.p9_word.specs.declared.request.Request.TheVariants.{Io as IoRequest}
+use Rattle.p9_word.specs.declared.request.ThreadReq.{ThreadReq}
+use Rattle.p9_word.specs.declared.request.ChanReq.{ChanReq}
+use Rattle.p9_word.specs.declared.request.IoReq.{IoReq}
+use Rattle.p9_word.specs.declared.request.IoReq.TheVariants.{IoProc, IoRun, CloseIoProc}
+use Rattle.p9_word.specs.declared.io_call.IoCall.{IoCall}
+use Rattle.p9_word.specs.declared.setup.Setup.{Setup}
+use Rattle.p9_word.specs.declared.trail.Entry.{Entry}
+use Rattle.p9_manual.specs.declared.state.Place.TheVariants.{Ready, Ended}
+use Rattle.p9_manual.specs.declared.state.Channel.{Channel}
+use Rattle.p9_manual.specs.declared.state.Ioproc.{Ioproc}
+use Rattle.p9_manual.specs.declared.state.Ioproc.TheVariants.{Unmade, Idle, Posted, Begun, Closed as ClosedIoproc}
+use Rattle.p9_laws.specs.Receipts.{Receipt}
+use Rattle.p9_manual.specs.Effects.{message_length}
+use Rattle.p9_manual.specs.State.{Move, State, Outcome, by_id, changed, now, wake}
+use Rattle.p9_manual.specs.Offers.{parties}
+use Rattle.p9_manual.specs.Entries.{is_on, waits_on, first_number}
+use Rattle.p9_manual.specs.Told.{failed_answer}
+use Rattle.p9_manual.specs.Threads.{thread_call}
+use Rattle.p9_manual.specs.Create.{fresh}
+use Rattle.p9_manual.specs.Close.{closed_chan, freed_chan, failed_on, all_failed, all_woken}
+use Rattle.p9_manual.specs.Chans.{empty_channel, on_channel}
+use Rattle.p9_manual.specs.Ioprocs.{with_ioproc, make, post_call, close_ioproc, io_call}
+use Rattle.p9_laws.proofs.AskedChans.{DoesToChans, Tells, MakesChannel, FreesChannel, ClosesChannel, on_channel_does}
+use Rattle.p9_laws.proofs.Asked.{Does, Answers, ChangesCaller, ChangesProcs, MakesThread, MakesProc, GivesWay, Ends, EndsAll, thread_call_does}
+use Rattle.p9_laws.proofs.Received.Places.{IsQuiet}
+use Rattle.p9_laws.proofs.Received.Agrees.{Agrees, put_quietly, left_there, one_more, all_gone, fewer_waits, other_chans}
+use Rattle.p9_laws.proofs.Received.Grows.{Grows, grows_same, grows_push, grows_changed}
+use Rattle.p9_laws.proofs.Received.Outcomes.{Stays, if_stays, now_stays, bad_stays, done_stays, waiting_stays}
+
+asked_stays : (setup : Setup) (t : ℕ) (s : State) (o : Outcome) → Does setup t s o → Stays t s o
+asked_stays setup t s _ (Answers x) = now_stays t s x
+asked_stays setup t s _ (ChangesCaller f caller x at leaves grants) =
+    record { silent = refl; grows = grows_same [] s.chans; agrees = λ H ms rs last e a. left_there a f leaves.place (t - 1) }
+asked_stays setup t s _ (ChangesProcs procs x grants) = record { silent = refl; grows = grows_same [] s.chans; agrees = λ H ms rs last e a. a }
+asked_stays setup t s _ (MakesThread program arg caller at own) =
+    record { silent = refl; grows = grows_same [] s.chans; agrees = λ H ms rs last e a. one_more a (fresh caller.proc_no program arg caller.group) refl }
+asked_stays setup t s _ (MakesProc program arg caller at own room) =
+    record {
+      silent = refl;
+      grows = grows_same [] s.chans;
+      agrees = λ H ms rs last e a. put_quietly (one_more a (fresh (s.opened + 1) program arg caller.group) refl) t (Ready (Number (length s.threads + 1))) (record { nothing = λ u. refl; unsent = refl });
+    }
+asked_stays setup t s _ GivesWay = done_stays t s Done (record { nothing = λ u. refl; unsent = refl })
+asked_stays setup t s _ Ends =
+    record { silent = refl; grows = grows_same [] s.chans; agrees = λ H ms rs last e a. fewer_waits (put_quietly a t Ended (record { nothing = λ u. refl; unsent = refl })) t }
+asked_stays setup t s _ EndsAll = record { silent = refl; grows = grows_same [] s.chans; agrees = λ H ms rs last e a. all_gone a }
+
+pub thread_call_stays : (setup : Setup) (t : ℕ) (r : ThreadReq) (s : State) → Stays t s (thread_call setup t r s)
+thread_call_stays setup t r s = asked_stays setup t s _ (thread_call_does setup t r s)
+
+ioproc_stays : (t k : ℕ) (io : Ioproc) (x : Answer) (s : State) → Stays t s (now x (with_ioproc k io s))
+ioproc_stays t k io x s = record { silent = refl; grows = grows_same [] s.chans; agrees = λ H ms rs last e a. a }
+
+make_stays : (t k : ℕ) (s : State) (o : Option Ioproc) → Stays t s (make k s o)
+make_stays t k s (Some Unmade) = ioproc_stays t k Idle _ s
+make_stays t k s (Some Idle) = bad_stays t s
+make_stays t k s (Some (Posted u call)) = bad_stays t s
+make_stays t k s (Some (Begun u call)) = bad_stays t s
+make_stays t k s (Some ClosedIoproc) = bad_stays t s
+make_stays t k s None = bad_stays t s
+
+post_call_stays : (t k : ℕ) (call : IoCall) (s : State) (o : Option Ioproc) → 1 ≤ t → Stays t s (post_call t k call s o)
+post_call_stays t k call s (Some Idle) made =
+    if_stays t s (ltb 4294967295 (message_length call)) _ _
+    (bad_stays t s)
+    (let w = waiting_stays t (with_ioproc k (Posted t call) s) (IoRequest (IoRun k call)) made in record { silent = w.silent; grows = w.grows; agrees = w.agrees })
+post_call_stays t k call s (Some Unmade) made = bad_stays t s
+post_call_stays t k call s (Some (Posted u other)) made = bad_stays t s
+post_call_stays t k call s (Some (Begun u other)) made = bad_stays t s
+post_call_stays t k call s (Some ClosedIoproc) made = bad_stays t s
+post_call_stays t k call s None made = bad_stays t s
+
+close_ioproc_stays : (t k : ℕ) (s : State) (o : Option Ioproc) → Stays t s (close_ioproc k s o)
+close_ioproc_stays t k s (Some Idle) = ioproc_stays t k ClosedIoproc _ s
+close_ioproc_stays t k s (Some Unmade) = bad_stays t s
+close_ioproc_stays t k s (Some (Posted u call)) = bad_stays t s
+close_ioproc_stays t k s (Some (Begun u call)) = bad_stays t s
+close_ioproc_stays t k s (Some ClosedIoproc) = bad_stays t s
+close_ioproc_stays t k s None = bad_stays t s
+
+pub io_call_stays : (setup : Setup) (t : ℕ) (r : IoReq) (s : State) → 1 ≤ t → Stays t s (io_call setup t r s)
+unfolding io_call
+io_call_stays setup t (IoProc k) s made = make_stays t k s (by_id s.ioprocs k)
+io_call_stays setup t (IoRun k call) s made = post_call_stays t k call s (by_id s.ioprocs k) made
+io_call_stays setup t (CloseIoProc k) s made = close_ioproc_stays t k s (by_id s.ioprocs k)
+
+failed_quiet : (single : Bool) (i : ℕ) → IsQuiet (Ready (failed_answer single i))
+failed_quiet true i = record { nothing = λ u. refl; unsent = refl }
+failed_quiet false i = record { nothing = λ u. refl; unsent = refl }
+
+all_woken_agrees : (H : List Entry) (ms : List Move) (rs : List Receipt) (last : ℕ → Option ℕ) (c : ℕ) → (ps : List Party) (s : State) → Agrees H ms rs last s.threads s.waits s.chans → Agrees H ms rs last (all_woken (map (failed_on c) ps) s).threads (all_woken (map (failed_on c) ps) s).waits (all_woken (map (failed_on c) ps) s).chans
+all_woken_agrees H ms rs last c [] s a = a
+all_woken_agrees H ms rs last c (w ∷ ps) s a =
+    all_woken_agrees H ms rs last c ps (wake w.tid (failed_answer w.single (first_number (is_on c) w.entries)) s)
+    (fewer_waits (put_quietly a w.tid (Ready (failed_answer w.single (first_number (is_on c) w.entries))) (failed_quiet w.single (first_number (is_on c) w.entries))) w.tid)
+
+all_woken_chans : (ws : List (ℕ × Answer)) (s : State) → (all_woken ws s).chans ≡ s.chans
+all_woken_chans [] s = refl
+all_woken_chans (w ∷ ws) s = all_woken_chans ws (wake w.0 w.1 s)
+
+chans_stay : (t : ℕ) (s : State) (o : Outcome) → DoesToChans s o → Stays t s o
+chans_stay t s _ (Tells x) = now_stays t s x
+chans_stay t s _ (MakesChannel cap elsize) =
+    record {
+      silent = refl;
+      grows = grows_push [] (empty_channel cap elsize) s.chans;
+      agrees = λ H ms rs last e a. other_chans a (s.chans ++ empty_channel cap elsize ∷ []) (grows_push [] (empty_channel cap elsize) s.chans);
+    }
+chans_stay t s _ (FreesChannel c chan there) =
+    record {
+      silent = refl;
+      grows = grows_changed [] freed_chan (λ x. refl) (λ x. refl) s.chans (c - 1);
+      agrees = λ H ms rs last e a. other_chans a (changed freed_chan s.chans (c - 1)) (grows_changed [] freed_chan (λ x. refl) (λ x. refl) s.chans (c - 1));
+    }
+chans_stay t s _ (ClosesChannel c chan there) =
+    let same = grows_changed [] closed_chan (λ x. refl) (λ x. refl) s.chans (c - 1) in
+    let after : State = record s { chans = changed closed_chan s.chans (c - 1) } in
+    record {
+      silent = refl;
+      grows = subst (λ (chans : List Channel). Grows [] s.chans chans) (sym (all_woken_chans (all_failed c (parties s.waits)) after)) same;
+      agrees = λ H ms rs last e a. all_woken_agrees H ms rs last c (filter (waits_on c) (parties s.waits)) after (other_chans a (changed closed_chan s.chans (c - 1)) same);
+    }
+
+pub on_channel_stays : (t : ℕ) (r : ChanReq) (s : State) → Stays t s (on_channel r s)
+on_channel_stays t r s = chans_stay t s _ (on_channel_does r s)

@@ -1,0 +1,189 @@
+-- A request that is refused leaves the state, but for the number of entries.
+use Rattle.std.proofs.Common.{ℕ, ◌≡◌, ◌+◌, Bool, true, false, not, cond, ◌||◌, List, Option, Some, None, refl}
+use Rattle.std.specs.Prelude.{option_map, nat_lt}
+use Rattle.std.specs.List.{list_any}
+use Rattle.p9_word.specs.declared.trail.Seat.{Seat}
+use Rattle.p9_word.specs.declared.trail.Seat.TheVariants.{Proc, Io as IoSeat}
+use Rattle.p9_word.specs.declared.trail.Event.{Event}
+use Rattle.p9_word.specs.declared.trail.Event.TheVariants.{Call, Next, IoTake, IoDid}
+use Rattle.p9_word.specs.declared.trail.Reply.{Reply}
+use Rattle.p9_word.specs.declared.trail.Reply.TheVariants as reply
+use Rattle.p9_word.specs.declared.request.Request.{Request}
+use Rattle.p9_word.specs.declared.request.Request.TheVariants.{Thread as ThreadRequest, Chan as ChanRequest, Io as IoRequest}
+use Rattle.p9_word.specs.declared.request.ThreadReq.{ThreadReq}
+use Rattle.p9_word.specs.declared.request.ChanReq.{ChanReq}
+use Rattle.p9_word.specs.declared.request.IoReq.{IoReq}
+use Rattle.p9_word.specs.declared.request.IoReq.TheVariants.{IoProc, IoRun, CloseIoProc}
+use Rattle.p9_word.specs.declared.io_call.IoCall.{IoCall}
+use Rattle.p9_word.specs.declared.io_call.Effect.{Effect}
+use Rattle.p9_word.specs.declared.setup.Setup.{Setup}
+use Rattle.p9_manual.specs.declared.state.Place.{Place}
+use Rattle.p9_manual.specs.declared.state.Place.TheVariants.{Running, New, Ready, Waiting, Ended}
+use Rattle.p9_manual.specs.declared.state.Thread.{Thread}
+use Rattle.p9_manual.specs.declared.state.Ioproc.{Ioproc}
+use Rattle.p9_manual.specs.declared.state.Ioproc.TheVariants as stand
+use Rattle.p9_manual.specs.State.{State, Outcome, by_id, pick}
+use Rattle.p9_manual.specs.Places.{runs_there, runs_in, lives, is_of}
+use Rattle.p9_manual.specs.Threads.{thread_call}
+use Rattle.p9_manual.specs.Offers.{Alternation, alternation}
+use Rattle.p9_manual.specs.Ready.{fits as fits_chans}
+use Rattle.p9_manual.specs.Alt.{Verdict, AllClosed, Commits, NoneReady, MustWait, decided}
+use Rattle.p9_manual.specs.Chans.{chan_call, by_alternation}
+use Rattle.p9_manual.specs.Ioprocs.{io_call, make, post_call, close_ioproc, take_call, did_call, io_event}
+use Rattle.p9_manual.specs.Effects.{fits, message_length}
+use Rattle.p9_manual.specs.Stuck.{is_stuck}
+use Rattle.p9_manual.specs.Next.{next_event, next_of, turn, turn_reply, started, is_place, is_over}
+use Rattle.p9_manual.specs.Step.{step, outcome, called, served, counted, makes_entry}
+use Rattle.p9_laws.specs.Refusals.{is_refusal}
+use Rattle.p9_laws.proofs.AskedChans.{DoesToChans, Tells, MakesChannel, FreesChannel, ClosesChannel, on_channel_does}
+use Rattle.p9_laws.proofs.Asked.{Does, Answers, ChangesCaller, ChangesProcs, MakesThread, MakesProc, GivesWay, Ends, EndsAll, thread_call_does}
+
+-- a refusal leaves this state
+abbrev Leaves : State → Outcome → Type 0
+Leaves s o = is_refusal o.reply ≡ true → o.state ≡ s
+
+if_leaves : (s : State) (b : Bool) (o p : Outcome) → Leaves s o → Leaves s p → Leaves s (cond b o p)
+if_leaves s true o p f g = f
+if_leaves s false o p f g = g
+
+chans_leave : (s : State) (o : Outcome) → DoesToChans s o → Leaves s o
+chans_leave s _ (Tells x) = λ e. refl
+chans_leave s _ (MakesChannel cap elsize) = λ e. cc
+chans_leave s _ (FreesChannel c chan there) = λ e. cc
+chans_leave s _ (ClosesChannel c chan there) = λ e. cc
+
+-- an alt that may be asked for is never refused
+decided_leaves : (t : ℕ) (request : Request) (s n : State) (v : Verdict) → Leaves s (decided t request n v)
+decided_leaves t request s n AllClosed = λ e. cc
+decided_leaves t request s n (Commits d) = λ e. cc
+decided_leaves t request s n NoneReady = λ e. cc
+decided_leaves t request s n MustWait = λ e. cc
+
+alternation_leaves : (S : Setup) (t : ℕ) (r : ChanReq) (s : State) (o : Option Alternation) → Leaves s (by_alternation S t r s o)
+alternation_leaves S t r s None = chans_leave s _ (on_channel_does r s)
+alternation_leaves S t r s (Some a) = if_leaves s (fits_chans s.chans a.entries) _ _ (decided_leaves t (ChanRequest r) s _ _) (λ e. refl)
+
+chan_leaves : (S : Setup) (t : ℕ) (r : ChanReq) (s : State) → Leaves s (chan_call S t r s)
+unfolding chan_call
+chan_leaves S t r s = alternation_leaves S t r s (alternation r)
+
+asked_leaves : (S : Setup) (t : ℕ) (s : State) (o : Outcome) → Does S t s o → Leaves s o
+asked_leaves S t s _ (Answers x) = λ e. refl
+asked_leaves S t s _ (ChangesCaller f caller x at leaves grants) = λ e. cc (e, grants)
+asked_leaves S t s _ (ChangesProcs procs x grants) = λ e. cc (e, grants)
+asked_leaves S t s _ (MakesThread program arg caller at own) = λ e. cc
+asked_leaves S t s _ (MakesProc program arg caller at own room) = λ e. cc
+asked_leaves S t s _ GivesWay = λ e. cc
+asked_leaves S t s _ Ends = λ e. cc
+asked_leaves S t s _ EndsAll = λ e. cc
+
+thread_leaves : (S : Setup) (t : ℕ) (r : ThreadReq) (s : State) → Leaves s (thread_call S t r s)
+thread_leaves S t r s = asked_leaves S t s _ (thread_call_does S t r s)
+
+make_leaves : (k : ℕ) (s : State) (o : Option Ioproc) → Leaves s (make k s o)
+make_leaves k s None = λ e. refl
+make_leaves k s (Some stand.Unmade) = λ e. cc
+make_leaves k s (Some stand.Idle) = λ e. refl
+make_leaves k s (Some (stand.Posted t call)) = λ e. refl
+make_leaves k s (Some (stand.Begun t call)) = λ e. refl
+make_leaves k s (Some stand.Closed) = λ e. refl
+
+post_leaves : (t k : ℕ) (call : IoCall) (s : State) (o : Option Ioproc) → Leaves s (post_call t k call s o)
+post_leaves t k call s None = λ e. refl
+post_leaves t k call s (Some stand.Unmade) = λ e. refl
+post_leaves t k call s (Some stand.Idle) = if_leaves s (nat_lt 4294967295 (message_length call)) _ _ (λ e. refl) (λ e. cc)
+post_leaves t k call s (Some (stand.Posted u other)) = λ e. refl
+post_leaves t k call s (Some (stand.Begun u other)) = λ e. refl
+post_leaves t k call s (Some stand.Closed) = λ e. refl
+
+close_ioproc_leaves : (k : ℕ) (s : State) (o : Option Ioproc) → Leaves s (close_ioproc k s o)
+close_ioproc_leaves k s None = λ e. refl
+close_ioproc_leaves k s (Some stand.Unmade) = λ e. refl
+close_ioproc_leaves k s (Some stand.Idle) = λ e. cc
+close_ioproc_leaves k s (Some (stand.Posted t call)) = λ e. refl
+close_ioproc_leaves k s (Some (stand.Begun t call)) = λ e. refl
+close_ioproc_leaves k s (Some stand.Closed) = λ e. refl
+
+io_leaves : (S : Setup) (t : ℕ) (r : IoReq) (s : State) → Leaves s (io_call S t r s)
+unfolding io_call
+io_leaves S t (IoProc k) s = make_leaves k s _
+io_leaves S t (IoRun k call) s = post_leaves t k call s _
+io_leaves S t (CloseIoProc k) s = close_ioproc_leaves k s _
+
+served_leaves : (S : Setup) (t : ℕ) (r : Request) (s : State) → Leaves s (served S t r s)
+unfolding served
+served_leaves S t (ThreadRequest r) s = thread_leaves S t r s
+served_leaves S t (ChanRequest r) s = chan_leaves S t r s
+served_leaves S t (IoRequest r) s = io_leaves S t r s
+
+called_leaves : (S : Setup) (p t : ℕ) (r : Request) (s : State) → Leaves s (called S p t r s)
+unfolding called
+called_leaves S p t r s = if_leaves s (runs_there p (by_id s.threads t)) _ _ (served_leaves S t r s) (λ e. refl)
+
+-- only a request is refused
+place_leaves : (t program arg : ℕ) (pl : Place) (s : State) (n : State) → is_refusal (turn_reply t (program, arg, pl)) ≡ true → n ≡ s
+place_leaves t program arg New s n e = cc
+place_leaves t program arg (Ready a) s n e = cc
+place_leaves t program arg Running s n e = cc
+place_leaves t program arg Waiting s n e = cc
+place_leaves t program arg Ended s n e = cc
+
+turn_leaves : (t : ℕ) (line : List ℕ) (s : State) (o : Option Thread) → Leaves s (turn t (record s { line = line }) (option_map started o))
+turn_leaves t line s None = λ e. cc
+turn_leaves t line s (Some thread) = λ e. place_leaves t thread.program thread.arg thread.place s _ e
+
+next_of_leaves : (s : State) (o : Option (ℕ × List ℕ)) → Leaves s (next_of s o)
+next_of_leaves s None = if_leaves s (is_stuck s) _ _ (λ e. cc) (λ e. refl)
+next_of_leaves s (Some found) = turn_leaves found.0 found.1 s (by_id s.threads found.0)
+
+next_leaves : (S : Setup) (p : ℕ) (s : State) → Leaves s (next_event S p s)
+unfolding next_event
+next_leaves S p s =
+    if_leaves s (not (is_place S p)) _ _ (λ e. refl) (if_leaves s (is_over p s) _ _ (λ e. refl) (if_leaves s (list_any (runs_in p) s.threads) _ _ (λ e. refl) (next_of_leaves s (pick (λ t. is_of p (by_id s.threads t)) s.line))))
+
+take_leaves : (k : ℕ) (s : State) (o : Option Ioproc) → Leaves s (take_call k s o)
+take_leaves k s None = λ e. refl
+take_leaves k s (Some stand.Closed) = λ e. refl
+take_leaves k s (Some (stand.Begun t call)) = if_leaves s (s.over || not (list_any lives s.threads)) _ _ (λ e. refl) (λ e. refl)
+take_leaves k s (Some (stand.Posted t call)) = if_leaves s (s.over || not (list_any lives s.threads)) _ _ (λ e. refl) (λ e. cc)
+take_leaves k s (Some stand.Unmade) = if_leaves s (s.over || not (list_any lives s.threads)) _ _ (λ e. refl) (λ e. refl)
+take_leaves k s (Some stand.Idle) = if_leaves s (s.over || not (list_any lives s.threads)) _ _ (λ e. refl) (λ e. refl)
+
+did_leaves : (k : ℕ) (effect : Effect) (s : State) (o : Option Ioproc) → Leaves s (did_call k effect s o)
+did_leaves k effect s None = λ e. refl
+did_leaves k effect s (Some stand.Unmade) = λ e. refl
+did_leaves k effect s (Some stand.Idle) = λ e. refl
+did_leaves k effect s (Some (stand.Posted t call)) = λ e. refl
+did_leaves k effect s (Some (stand.Begun t call)) = if_leaves s (fits call effect) _ _ (λ e. cc) (λ e. refl)
+did_leaves k effect s (Some stand.Closed) = λ e. refl
+
+outcome_leaves : (S : Setup) (seat : Seat) (event : Event) (s : State) → Leaves s (outcome S seat event s)
+unfolding outcome io_event
+outcome_leaves S (Proc p) (Call t r) s = called_leaves S p t r s
+outcome_leaves S (Proc p) Next s = next_leaves S p s
+outcome_leaves S (Proc p) IoTake s = λ e. refl
+outcome_leaves S (Proc p) (IoDid effect) s = λ e. refl
+outcome_leaves S (IoSeat k) IoTake s = take_leaves k s _
+outcome_leaves S (IoSeat k) (IoDid effect) s = did_leaves k effect s _
+outcome_leaves S (IoSeat k) (Call t r) s = λ e. refl
+outcome_leaves S (IoSeat k) Next s = λ e. refl
+
+refusals_make : (r : Reply) → is_refusal r ≡ true → makes_entry r ≡ true
+refusals_make (reply.Now a) e = refl
+refusals_make reply.Waits e = cc
+refusals_make reply.Ended e = cc
+refusals_make (reply.Begin t program arg) e = cc
+refusals_make (reply.Turn t a) e = cc
+refusals_make reply.Idle e = cc
+refusals_make reply.Over e = cc
+refusals_make reply.Stuck e = cc
+refusals_make reply.Stray e = cc
+refusals_make (reply.Took call) e = cc
+refusals_make reply.Noted e = cc
+
+counted_leaves : (s : State) (o : Outcome) → Leaves s o → is_refusal o.reply ≡ true → (counted s o).state ≡ record s { entries = s.entries + 1 }
+counted_leaves s o leaves e = rw (refusals_make o.reply e, leaves e) refl
+
+pub refusals_leave : (S : Setup) (s : State) (seat : Seat) (event : Event) → is_refusal (step S seat event s).reply ≡ true → (step S seat event s).state ≡ record s { entries = s.entries + 1 }
+unfolding step
+refusals_leave S s seat event e = counted_leaves s (outcome S seat event s) (outcome_leaves S seat event s) e

@@ -1,0 +1,247 @@
+-- The calls in which threads wait, against the calls that the ioprocs have.
+use Rattle.std.proofs.Common.{◌≡◌, ◌≢◌, inl, inr, ℕ, suc, ◌+◌, ◌-◌, ◌≤◌, Bool, true, false, not, cond, eqb, List, [], ◌∷◌, ◌++◌, map, Option, Some, None, refl, ap, sym, subst, ◌∙◌, arith, rules, tests, append-nil}
+use Rattle.std.specs.Prelude.{option_map}
+use Rattle.std.specs.List.{filter}
+use Rattle.std.proofs.lemmas.Bool.{cases_eq}
+use Rattle.std.proofs.lemmas.List.Elements.{filter-append}
+use Rattle.std.proofs.lemmas.List.Concat.{flat_map-append}
+use Rattle.p9_word.specs.declared.request.Request.{Request}
+use Rattle.p9_word.specs.declared.request.Request.TheVariants.{Io as IoRequest}
+use Rattle.p9_word.specs.declared.request.IoReq.TheVariants.{IoRun}
+use Rattle.p9_word.specs.declared.io_call.IoCall.{IoCall}
+use Rattle.p9_manual.specs.declared.state.Place.TheVariants.{Waiting}
+use Rattle.p9_manual.specs.declared.state.Thread.{Thread}
+use Rattle.p9_manual.specs.declared.state.Waiter.{Waiter}
+use Rattle.p9_manual.specs.declared.state.Ioproc.{Ioproc}
+use Rattle.p9_manual.specs.declared.state.Ioproc.TheVariants.{Unmade, Idle, Posted, Begun, Closed}
+use Rattle.p9_manual.specs.Effects.{message_length}
+use Rattle.p9_manual.specs.Ends.{let_go}
+use Rattle.p9_manual.specs.Offers.{parties}
+use Rattle.p9_manual.specs.State.{by_id, changed, waits_without}
+use Rattle.p9_manual.specs.Standing.{StandOnce, times, place_of}
+use Rattle.p9_manual.specs.Sound.{CallsMatch, call_in, call_at, waiting_calls, call_of, message_at}
+use Rattle.p9_laws.proofs.Sound.Counts.{filter_none, times-append}
+use Rattle.p9_laws.proofs.Sound.Places.{by_id-changed_same, by_id-changed_other, by_id-map}
+use Rattle.p9_laws.proofs.Sound.Parties.{is_tid, party_calls}
+use Rattle.p9_laws.proofs.Sound.Stand.{eqb_same, eqb_other, waits_once}
+
+-- one more wait
+calls_push : (k : ℕ) (waits : List Waiter) (w : Waiter) → waiting_calls k (waits ++ w ∷ []) ≡ waiting_calls k waits ++ call_at k w
+calls_push k waits w = flat_map-append (call_at k) waits (w ∷ []) ∙ ap (λ cs. waiting_calls k waits ++ cs) (append-nil (call_at k w))
+
+-- the call isn't for t
+abbrev is_not_for : ℕ → ℕ × IoCall → Bool
+is_not_for t c = not (eqb c.0 t)
+
+abbrev is_for : ℕ → ℕ × IoCall → Bool
+is_for t c = eqb c.0 t
+
+one_without : (t u : ℕ) (call : IoCall) (b c : Bool) → eqb u t ≡ b → filter (is_not_for t) (cond c ((u, call) ∷ []) []) ≡ cond b [] (cond c ((u, call) ∷ []) [])
+one_without t u call true true h = rw h refl
+one_without t u call false true h = rw h refl
+one_without t u call true false h = refl
+one_without t u call false false h = refl
+
+either_way : {A : Type 0} (b : Bool) (x : A) → x ≡ cond b x x
+either_way true x = refl
+either_way false x = refl
+
+call_without : (k t u : ℕ) (r : Request) (b : Bool) → eqb u t ≡ b → filter (is_not_for t) (call_in k u r) ≡ cond b [] (call_in k u r)
+call_without k t u (IoRequest (IoRun j call)) b h = one_without t u call b (eqb j k) h
+call_without k t u r b h = either_way b []
+
+without_step : (k t : ℕ) (b : Bool) (w : Waiter) (fs ws : List Waiter) → eqb w.tid t ≡ b → waiting_calls k fs ≡ filter (is_not_for t) (waiting_calls k ws) → waiting_calls k (cond (not b) (w ∷ fs) fs) ≡ filter (is_not_for t) (call_at k w ++ waiting_calls k ws)
+without_step k t true w fs ws h e = rw (filter-append (is_not_for t) (call_at k w) (waiting_calls k ws), call_without k t w.tid w.request true h) e
+without_step k t false w fs ws h e = rw (filter-append (is_not_for t) (call_at k w) (waiting_calls k ws), call_without k t w.tid w.request false h) (ap (λ cs. call_at k w ++ cs) e)
+
+-- without the waits of t the calls of t are gone
+calls_without : (k t : ℕ) → (waits : List Waiter) → waiting_calls k (waits_without t waits) ≡ filter (is_not_for t) (waiting_calls k waits)
+calls_without k t [] = refl
+calls_without k t (w ∷ ws) = without_step k t (eqb w.tid t) w (waits_without t ws) ws refl (calls_without k t ws)
+
+apart_step : (t u : ℕ) (call : IoCall) (b c : Bool) → (b ≡ true → c ≡ true → ⊥) → times (is_for t) (cond b ((u, call) ∷ []) []) + times (is_for t) (cond c ((u, call) ∷ []) []) ≤ cond (eqb u t) 1 0
+apart_step t u call true true h = absurd (h refl refl)
+apart_step t u call true false h = omega arith
+apart_step t u call false true h = omega arith
+apart_step t u call false false h = omega arith
+
+not_both : (i j k : ℕ) → j ≢ k → eqb i j ≡ true → eqb i k ≡ true → ⊥
+not_both i j k ne a b = search (rules, tests)
+
+apart_at : (j k t u : ℕ) (r : Request) → j ≢ k → times (is_for t) (call_in j u r) + times (is_for t) (call_in k u r) ≤ cond (eqb u t) 1 0
+apart_at j k t u (IoRequest (IoRun i call)) ne = apart_step t u call (eqb i j) (eqb i k) (not_both i j k ne)
+apart_at j k t u r ne = omega arith
+
+-- a thread waits as often as in calls at two ioprocs together
+calls_apart : (j k t : ℕ) → j ≢ k → (waits : List Waiter) → times (is_for t) (waiting_calls j waits) + times (is_for t) (waiting_calls k waits) ≤ times (λ w. eqb w.tid t) waits
+calls_apart j k t ne [] = omega arith
+calls_apart j k t ne (w ∷ ws) =
+    let a = times-append (is_for t) (call_at j w) (waiting_calls j ws) in
+    let b = times-append (is_for t) (call_at k w) (waiting_calls k ws) in
+    let here = apart_at j k t w.tid w.request ne in
+    let rest = calls_apart j k t ne ws in
+    omega (arith, a, b, here, rest)
+
+-- the calls stay the same
+pub same_calls : (ioprocs : List Ioproc) (waits others : List Waiter) → ((k : ℕ) → waiting_calls k others ≡ waiting_calls k waits) → CallsMatch ioprocs waits → CallsMatch ioprocs others
+same_calls ioprocs waits others same match' = record { calls = λ k. same k ∙ match'.calls k; messages = match'.messages }
+
+-- without the waits of a thread that waits in no call
+pub without_match : (ioprocs : List Ioproc) (waits : List Waiter) (t : ℕ) → times (λ w. eqb w.tid t) waits ≤ times (is_tid t) (parties waits) → CallsMatch ioprocs waits → CallsMatch ioprocs (waits_without t waits)
+without_match ioprocs waits t h match' = same_calls ioprocs waits (waits_without t waits) (λ k. party_calls k t waits h) match'
+
+-- one more wait that is in no call
+pub pushed_match : (ioprocs : List Ioproc) (waits : List Waiter) (w : Waiter) → ((k : ℕ) → call_at k w ≡ []) → CallsMatch ioprocs waits → CallsMatch ioprocs (waits ++ w ∷ [])
+pushed_match ioprocs waits w none match' =
+    same_calls ioprocs waits (waits ++ w ∷ []) (λ k. calls_push k waits w ∙ ap (λ cs. waiting_calls k waits ++ cs) (none k) ∙ append-nil (waiting_calls k waits)) match'
+
+-- an ioproc that has the same call for the same thread as before
+pub kept_match : (ioprocs : List Ioproc) (waits : List Waiter) (k : ℕ) (old io : Ioproc) → by_id ioprocs k ≡ Some old → call_of (Some io) ≡ call_of (Some old) → message_at (Some io) ≤ message_at (Some old) → CallsMatch ioprocs waits → CallsMatch (changed (λ _. io) ioprocs (k - 1)) waits
+kept_match ioprocs waits k old io e same short match' =
+    record {
+      calls = λ j. elim (cases_eq j k) [
+        | inl here ↦ match'.calls j ∙ ap (λ x. call_of (by_id ioprocs x)) here ∙ ap call_of e ∙ sym same ∙ sym (ap call_of (by_id-changed_same (λ _. io) ioprocs k old e)) ∙ sym (ap (λ x. call_of (by_id (changed (λ _. io) ioprocs (k - 1)) x)) here)
+        | inr ne ↦ match'.calls j ∙ sym (ap call_of (by_id-changed_other (λ _. io) ioprocs k j old e ne))
+      ];
+      messages = λ j. elim (cases_eq j k) [
+        | inl here ↦
+            let a = ap (λ x. message_at (by_id (changed (λ _. io) ioprocs (k - 1)) x)) here ∙ ap message_at (by_id-changed_same (λ _. io) ioprocs k old e) in
+            let b = ap message_at e in
+            let m = match'.messages k in
+            bounded _ _ _ _ a short b m
+        | inr ne ↦ subst (λ (n : ℕ). n ≤ 4294967295) (sym (ap message_at (by_id-changed_other (λ _. io) ioprocs k j old e ne))) (match'.messages j)
+      ];
+    }
+  where
+    bounded : (a b c d : ℕ) → a ≡ b → b ≤ c → d ≡ c → d ≤ 4294967295 → a ≤ 4294967295
+    bounded a b c d e f g h = omega arith
+
+-- a call is posted at an idle ioproc, and its thread waits in it
+pub posted_match : (ioprocs : List Ioproc) (waits : List Waiter) (t k at : ℕ) (call : IoCall) → by_id ioprocs k ≡ Some Idle → message_length call ≤ 4294967295 → CallsMatch ioprocs waits → CallsMatch (changed (λ _. Posted t call) ioprocs (k - 1)) (waits ++ record { tid = t; request = IoRequest (IoRun k call); at = at } ∷ [])
+posted_match ioprocs waits t k at call e short match' =
+    record {
+      calls = λ j. calls_push j waits (record { tid = t; request = IoRequest (IoRun k call); at = at }) ∙ elim (cases_eq j k) [
+        | inl here ↦ posted_here j here
+        | inr ne ↦ posted_elsewhere j ne
+      ];
+      messages = λ j. elim (cases_eq j k) [
+        | inl here ↦ subst (λ (n : ℕ). n ≤ 4294967295) (sym (ap message_at (at_k j here))) short
+        | inr ne ↦ subst (λ (n : ℕ). n ≤ 4294967295) (sym (ap message_at (by_id-changed_other (λ _. Posted t call) ioprocs k j Idle e ne))) (match'.messages j)
+      ];
+    }
+  where
+    at_k : (j : ℕ) → j ≡ k → by_id (changed (λ _. Posted t call) ioprocs (k - 1)) j ≡ Some (Posted t call)
+    at_k j here = ap (λ x. by_id (changed (λ _. Posted t call) ioprocs (k - 1)) x) here ∙ by_id-changed_same (λ _. Posted t call) ioprocs k Idle e
+
+    first : (b : Bool) → b ≡ true → cond {A = List (ℕ × IoCall)} b ((t, call) ∷ []) [] ≡ (t, call) ∷ []
+    first b h = rw h refl
+
+    later : (b : Bool) → b ≡ false → cond {A = List (ℕ × IoCall)} b ((t, call) ∷ []) [] ≡ []
+    later b h = rw h refl
+
+    posted_here : (j : ℕ) → j ≡ k → waiting_calls j waits ++ call_in j t (IoRequest (IoRun k call)) ≡ call_of (by_id (changed (λ _. Posted t call) ioprocs (k - 1)) j)
+    posted_here j here =
+        let none : waiting_calls j waits ≡ [] = match'.calls j ∙ ap (λ x. call_of (by_id ioprocs x)) here ∙ ap call_of e in
+        let same : eqb k j ≡ true = ap (λ x. eqb k x) here ∙ eqb_same k in
+        ap (λ cs. cs ++ call_in j t (IoRequest (IoRun k call))) none ∙ first (eqb k j) same ∙ sym (ap call_of (at_k j here))
+
+    posted_elsewhere : (j : ℕ) → j ≢ k → waiting_calls j waits ++ call_in j t (IoRequest (IoRun k call)) ≡ call_of (by_id (changed (λ _. Posted t call) ioprocs (k - 1)) j)
+    posted_elsewhere j ne =
+        ap (λ cs. waiting_calls j waits ++ cs) (later (eqb k j) (eqb_other k j ne)) ∙ append-nil (waiting_calls j waits) ∙ match'.calls j ∙ sym (ap call_of (by_id-changed_other (λ _. Posted t call) ioprocs k j Idle e ne))
+
+-- the thread of a begun call waits
+pub begun_waits : (threads : List Thread) (line : List ℕ) (waits : List Waiter) (ioprocs : List Ioproc) (t k : ℕ) (call : IoCall) → by_id ioprocs k ≡ Some (Begun (Some t) call) → StandOnce threads line waits → CallsMatch ioprocs waits → (place_of threads t ≡ Waiting) × (times (λ w. eqb w.tid t) waits ≡ 1)
+begun_waits threads line waits ioprocs t k call e stand match' = waits_once threads line waits t stand (in_call k call (match'.calls k ∙ ap call_of e))
+  where
+    in_call : (k : ℕ) (call : IoCall) → waiting_calls k waits ≡ (t, call) ∷ [] → 1 ≤ times (λ w. eqb w.tid t) waits
+    in_call k call h =
+        let one = ap (times (is_for t)) h in
+        let b = ap (λ x. cond {A = ℕ} x 1 0) (eqb_same t) in
+        let sum = calls_apart (suc k) k t (λ same. absurd (omega arith)) waits in
+        omega (arith, one, b, sum)
+
+-- how often a call is for t, by what the call is
+for_one : (t : ℕ) (call : IoCall) → times (is_for t) ((t, call) ∷ []) ≡ 1
+for_one t call = rw (eqb_same t) refl
+
+-- the begun call of t is done: its wait is taken out, and the ioproc is idle
+pub done_match : (threads : List Thread) (line : List ℕ) (waits : List Waiter) (ioprocs : List Ioproc) (t k : ℕ) (call : IoCall) → by_id ioprocs k ≡ Some (Begun (Some t) call) → StandOnce threads line waits → CallsMatch ioprocs waits → CallsMatch (changed (λ _. Idle) ioprocs (k - 1)) (waits_without t waits)
+done_match threads line waits ioprocs t k call e stand match' =
+    record {
+      calls = λ j. calls_without j t waits ∙ elim (cases_eq j k) [
+        | inl here ↦ done_here j here
+        | inr ne ↦ done_elsewhere j ne
+      ];
+      messages = λ j. elim (cases_eq j k) [
+        | inl here ↦ subst (λ (n : ℕ). n ≤ 4294967295) (sym (ap message_at (at_k j here))) (omega arith)
+        | inr ne ↦ subst (λ (n : ℕ). n ≤ 4294967295) (sym (ap message_at (by_id-changed_other (λ _. Idle) ioprocs k j (Begun (Some t) call) e ne))) (match'.messages j)
+      ];
+    }
+  where
+    at_k : (j : ℕ) → j ≡ k → by_id (changed (λ _. Idle) ioprocs (k - 1)) j ≡ Some Idle
+    at_k j here = ap (λ x. by_id (changed (λ _. Idle) ioprocs (k - 1)) x) here ∙ by_id-changed_same (λ _. Idle) ioprocs k (Begun (Some t) call) e
+
+    its_call : waiting_calls k waits ≡ (t, call) ∷ []
+    its_call = match'.calls k ∙ ap call_of e
+
+    gone : filter (is_not_for t) ((t, call) ∷ []) ≡ []
+    gone = rw (eqb_same t) refl
+
+    done_here : (j : ℕ) → j ≡ k → filter (is_not_for t) (waiting_calls j waits) ≡ call_of (by_id (changed (λ _. Idle) ioprocs (k - 1)) j)
+    done_here j here = ap (λ x. filter (is_not_for t) (waiting_calls x waits)) here ∙ ap (filter (is_not_for t)) its_call ∙ gone ∙ sym (ap call_of (at_k j here))
+
+    none_else : (j : ℕ) → j ≢ k → times (is_for t) (waiting_calls j waits) ≡ 0
+    none_else j ne =
+        let sum = calls_apart j k t ne waits in
+        let one = ap (times (is_for t)) its_call ∙ for_one t call in
+        let once = (begun_waits threads line waits ioprocs t k call e stand match').1 in
+        omega (arith, sum, one, once)
+
+    done_elsewhere : (j : ℕ) → j ≢ k → filter (is_not_for t) (waiting_calls j waits) ≡ call_of (by_id (changed (λ _. Idle) ioprocs (k - 1)) j)
+    done_elsewhere j ne =
+        filter_none (is_for t) (waiting_calls j waits) (none_else j ne) ∙ match'.calls j ∙ sym (ap call_of (by_id-changed_other (λ _. Idle) ioprocs k j (Begun (Some t) call) e ne))
+
+posted_let_go : (t u : ℕ) (call : IoCall) (b : Bool) → eqb u t ≡ b → call_of (Some (cond b Idle (Posted u call))) ≡ filter (is_not_for t) ((u, call) ∷ [])
+posted_let_go t u call true h = rw h refl
+posted_let_go t u call false h = rw h refl
+
+begun_let_go : (t u : ℕ) (call : IoCall) (b : Bool) → eqb u t ≡ b → call_of (Some (Begun (cond b None (Some u)) call)) ≡ filter (is_not_for t) ((u, call) ∷ [])
+begun_let_go t u call true h = rw h refl
+begun_let_go t u call false h = rw h refl
+
+-- the call of an ioproc without t
+call_let_go : (t : ℕ) (o : Option Ioproc) → call_of (option_map (let_go t) o) ≡ filter (is_not_for t) (call_of o)
+call_let_go t None = refl
+call_let_go t (Some Unmade) = refl
+call_let_go t (Some Idle) = refl
+call_let_go t (Some (Posted u call)) = posted_let_go t u call (eqb u t) refl
+call_let_go t (Some (Begun None call)) = refl
+call_let_go t (Some (Begun (Some u) call)) = begun_let_go t u call (eqb u t) refl
+call_let_go t (Some Closed) = refl
+
+message_posted : (u : ℕ) (call : IoCall) (b : Bool) → message_at (Some (cond b Idle (Posted u call))) ≤ message_length call
+message_posted u call true = omega arith
+message_posted u call false = omega arith
+
+message_let_go : (t : ℕ) (o : Option Ioproc) → message_at (option_map (let_go t) o) ≤ message_at o
+message_let_go t None = omega arith
+message_let_go t (Some Unmade) = omega arith
+message_let_go t (Some Idle) = omega arith
+message_let_go t (Some (Posted u call)) = message_posted u call (eqb u t)
+message_let_go t (Some (Begun for call)) = omega arith
+message_let_go t (Some Closed) = omega arith
+
+-- t has ended
+pub ended_match : (t : ℕ) (ioprocs : List Ioproc) (waits : List Waiter) → CallsMatch ioprocs waits → CallsMatch (map (let_go t) ioprocs) (waits_without t waits)
+ended_match t ioprocs waits match' =
+    record {
+      calls = λ k. calls_without k t waits ∙ ap (filter (is_not_for t)) (match'.calls k) ∙ sym (call_let_go t (by_id ioprocs k)) ∙ sym (ap call_of (by_id-map (let_go t) ioprocs k));
+      messages = λ k.
+          let a = ap message_at (by_id-map (let_go t) ioprocs k) in
+          let b = message_let_go t (by_id ioprocs k) in
+          let m = match'.messages k in
+          bounded _ _ _ a b m;
+    }
+  where
+    bounded : (a b c : ℕ) → a ≡ b → b ≤ c → c ≤ 4294967295 → a ≤ 4294967295
+    bounded a b c e f g = omega arith

@@ -1,0 +1,112 @@
+-- The requests on ioprocs, and what ioprocs do, keep a sound state sound.
+use Rattle.std.proofs.Common.{◌≡◌, ◌≤◌, ℕ, ◌+◌, false, not, ◌||◌, eqb, ltb, Option, Some, None, refl, arith, rules, tests}
+use Rattle.std.specs.List.{list_any}
+use Rattle.p9_word.specs.declared.setup.Setup.{Setup}
+use Rattle.p9_word.specs.declared.answer.Answer.TheVariants.{Done, Number}
+use Rattle.p9_word.specs.declared.trail.Reply.TheVariants.{Over, Stray, Idle as IdleReply}
+use Rattle.p9_word.specs.declared.request.IoReq.{IoReq}
+use Rattle.p9_word.specs.declared.request.IoReq.TheVariants.{IoProc, IoRun, CloseIoProc}
+use Rattle.p9_word.specs.declared.io_call.IoCall.{IoCall}
+use Rattle.p9_word.specs.declared.io_call.Effect.{Effect}
+use Rattle.p9_manual.specs.declared.state.Ioproc.{Ioproc}
+use Rattle.p9_manual.specs.declared.state.Ioproc.TheVariants.{Unmade, Idle, Posted, Begun, Closed}
+use Rattle.p9_manual.specs.Effects.{fits, message_length}
+use Rattle.p9_manual.specs.Places.{lives}
+use Rattle.p9_manual.specs.State.{State, by_id}
+use Rattle.p9_manual.specs.Ioprocs.{with_ioproc, make, post_call, close_ioproc, io_call, take_call, answered, did_call, io_event}
+use Rattle.p9_manual.specs.Sound.{IsSound, call_of, message_at}
+use Rattle.p9_laws.proofs.Sound.Order.{filtered_order}
+use Rattle.p9_laws.proofs.Sound.Stand.{answered_stands, members_placed}
+use Rattle.p9_laws.proofs.Sound.Waits.{calling_rightly, without_rightly}
+use Rattle.p9_laws.proofs.Sound.Calls.{kept_match, posted_match, begun_waits, done_match}
+use Rattle.p9_laws.proofs.Sound.Outcomes.{IsFine, IsSafe, RunsIn, if_fine, if_safe, same_safe, now_fine, bad_fine, waiting_fine, at_entries, later_sound}
+
+-- an ioproc that has the same call for the same thread as before
+with_ioproc_sound : (setup : Setup) (s : State) (k : ℕ) (old io : Ioproc) → by_id s.ioprocs k ≡ Some old → call_of (Some io) ≡ call_of (Some old) → message_at (Some io) ≤ message_at (Some old) → IsSound setup s → IsSound setup (with_ioproc k io s)
+with_ioproc_sound setup s k old io e call short sound =
+    record {
+      stand = sound.stand;
+      members = sound.members;
+      opened = sound.opened;
+      waits_right = sound.waits_right;
+      within = sound.within;
+      order = sound.order;
+      calls = kept_match s.ioprocs s.waits k old io e call short sound.calls;
+    }
+
+make_fine : (setup : Setup) (k : ℕ) (s : State) (o : Option Ioproc) → by_id s.ioprocs k ≡ o → IsSound setup s → IsFine setup s.entries (make k s o)
+make_fine setup k s (Some Unmade) e sound = now_fine setup _ (Number k) (with_ioproc_sound setup s k Unmade Idle e refl (omega arith) sound)
+make_fine setup k s (Some Idle) e sound = bad_fine setup s sound
+make_fine setup k s (Some (Posted t call)) e sound = bad_fine setup s sound
+make_fine setup k s (Some (Begun t call)) e sound = bad_fine setup s sound
+make_fine setup k s (Some Closed) e sound = bad_fine setup s sound
+make_fine setup k s None e sound = bad_fine setup s sound
+
+le_from_ltb : (n m : ℕ) → ltb n m ≡ false → m ≤ n
+le_from_ltb n m h = search (rules, tests)
+
+post_call_fine : (setup : Setup) (t k : ℕ) (call : IoCall) (s : State) (o : Option Ioproc) → by_id s.ioprocs k ≡ o → IsSound setup s → RunsIn s t → IsFine setup s.entries (post_call t k call s o)
+post_call_fine setup t k call s (Some Idle) e sound runs =
+    if_fine setup s.entries (ltb 4294967295 (message_length call)) _ _ (λ _. bad_fine setup s sound)
+    (λ h. waiting_fine setup (with_ioproc k (Posted t call) s) t _ (record { stand = sound.stand; members = sound.members; opened = sound.opened; within = sound.within; order = sound.order }) runs
+    (calling_rightly s.chans s.waits t k s.entries call sound.waits_right)
+    (posted_match s.ioprocs s.waits t k s.entries call e (le_from_ltb 4294967295 (message_length call) h) sound.calls))
+post_call_fine setup t k call s (Some Unmade) e sound runs = bad_fine setup s sound
+post_call_fine setup t k call s (Some (Posted u other)) e sound runs = bad_fine setup s sound
+post_call_fine setup t k call s (Some (Begun u other)) e sound runs = bad_fine setup s sound
+post_call_fine setup t k call s (Some Closed) e sound runs = bad_fine setup s sound
+post_call_fine setup t k call s None e sound runs = bad_fine setup s sound
+
+close_ioproc_fine : (setup : Setup) (k : ℕ) (s : State) (o : Option Ioproc) → by_id s.ioprocs k ≡ o → IsSound setup s → IsFine setup s.entries (close_ioproc k s o)
+close_ioproc_fine setup k s (Some Idle) e sound = now_fine setup _ Done (with_ioproc_sound setup s k Idle Closed e refl (omega arith) sound)
+close_ioproc_fine setup k s (Some Unmade) e sound = bad_fine setup s sound
+close_ioproc_fine setup k s (Some (Posted t call)) e sound = bad_fine setup s sound
+close_ioproc_fine setup k s (Some (Begun t call)) e sound = bad_fine setup s sound
+close_ioproc_fine setup k s (Some Closed) e sound = bad_fine setup s sound
+close_ioproc_fine setup k s None e sound = bad_fine setup s sound
+
+pub io_call_fine : (setup : Setup) (t : ℕ) (r : IoReq) (s : State) → IsSound setup s → RunsIn s t → IsFine setup s.entries (io_call setup t r s)
+unfolding io_call
+io_call_fine setup t (IoProc k) s sound runs = make_fine setup k s _ refl sound
+io_call_fine setup t (IoRun k call) s sound runs = post_call_fine setup t k call s _ refl sound runs
+io_call_fine setup t (CloseIoProc k) s sound runs = close_ioproc_fine setup k s _ refl sound
+
+take_call_safe : (setup : Setup) (k : ℕ) (s : State) (o : Option Ioproc) → by_id s.ioprocs k ≡ o → IsSound setup s → IsSafe setup s (take_call k s o)
+take_call_safe setup k s None e sound = same_safe setup s Stray refl sound
+take_call_safe setup k s (Some Closed) e sound = same_safe setup s Over refl sound
+take_call_safe setup k s (Some (Begun t call)) e sound =
+    if_safe setup s (s.over || not (list_any lives s.threads)) _ _ (λ _. same_safe setup s Over refl sound) (λ _. same_safe setup s Stray refl sound)
+take_call_safe setup k s (Some (Posted t call)) e sound =
+    if_safe setup s (s.over || not (list_any lives s.threads)) _ _ (λ _. same_safe setup s Over refl sound)
+    (λ _. record { sound = later_sound setup (with_ioproc k (Begun (Some t) call) s) (with_ioproc_sound setup s k (Posted t call) (Begun (Some t) call) e refl (omega arith) sound); begins = tt })
+take_call_safe setup k s (Some Unmade) e sound =
+    if_safe setup s (s.over || not (list_any lives s.threads)) _ _ (λ _. same_safe setup s Over refl sound) (λ _. same_safe setup s IdleReply refl sound)
+take_call_safe setup k s (Some Idle) e sound =
+    if_safe setup s (s.over || not (list_any lives s.threads)) _ _ (λ _. same_safe setup s Over refl sound) (λ _. same_safe setup s IdleReply refl sound)
+
+answered_sound : (setup : Setup) (s : State) (k : ℕ) (o : Option ℕ) (call : IoCall) (effect : Effect) → by_id s.ioprocs k ≡ Some (Begun o call) → IsSound setup s → IsSound setup (at_entries (s.entries + 1) (answered o effect (with_ioproc k Idle s)))
+answered_sound setup s k None call effect e sound = later_sound setup (with_ioproc k Idle s) (with_ioproc_sound setup s k (Begun None call) Idle e refl (omega arith) sound)
+answered_sound setup s k (Some t) call effect e sound =
+    later_sound setup (answered (Some t) effect (with_ioproc k Idle s)) (record {
+      stand = answered_stands s.threads s.line s.waits t _ sound.stand (begun_waits s.threads s.line s.waits s.ioprocs t k call e sound.stand sound.calls).0;
+      members = members_placed s.opened setup.programs t _ s.threads sound.members;
+      opened = sound.opened;
+      waits_right = without_rightly s.chans s.waits t sound.waits_right;
+      within = sound.within;
+      order = filtered_order s.entries s.waits (λ w. not (eqb w.tid t)) sound.order;
+      calls = done_match s.threads s.line s.waits s.ioprocs t k call e sound.stand sound.calls;
+    })
+
+did_call_safe : (setup : Setup) (k : ℕ) (effect : Effect) (s : State) (o : Option Ioproc) → by_id s.ioprocs k ≡ o → IsSound setup s → IsSafe setup s (did_call k effect s o)
+did_call_safe setup k effect s (Some (Begun t call)) e sound =
+    if_safe setup s (fits call effect) _ _ (λ _. record { sound = answered_sound setup s k t call effect e sound; begins = tt }) (λ _. same_safe setup s Stray refl sound)
+did_call_safe setup k effect s (Some Unmade) e sound = same_safe setup s Stray refl sound
+did_call_safe setup k effect s (Some Idle) e sound = same_safe setup s Stray refl sound
+did_call_safe setup k effect s (Some (Posted t call)) e sound = same_safe setup s Stray refl sound
+did_call_safe setup k effect s (Some Closed) e sound = same_safe setup s Stray refl sound
+did_call_safe setup k effect s None e sound = same_safe setup s Stray refl sound
+
+pub io_event_safe : (setup : Setup) (k : ℕ) (s : State) (o : Option Effect) → IsSound setup s → IsSafe setup s (io_event k s o)
+unfolding io_event
+io_event_safe setup k s None sound = take_call_safe setup k s _ refl sound
+io_event_safe setup k s (Some effect) sound = did_call_safe setup k effect s _ refl sound

@@ -1,0 +1,76 @@
+//! Worked examples, proved by computing.
+
+ghost use Rattle.p9_manual.specs.History.{IsLegal};
+ghost use Rattle.p9_laws.specs.CopySetup.{copy_setup};
+ghost use Rattle.p9_laws.specs.CopyExample.{copied_hi, ShowsTheCopy};
+ghost use Rattle.p9_laws.specs.WrongExample.{swapped, IsWrongAt};
+ghost use Rattle.p9_laws.specs.ThreadExamples.{turns_setup, by_turns, ShowsTheTurns};
+ghost use Rattle.p9_laws.specs.ChannelExamples.{channel_setup, by_a_channel, ShowsTheChannel};
+ghost use Rattle.p9_laws.specs.AltExamples.{ready_setup, one_ready, ShowsNoChoice, choice_setup, two_ready, ShowsTheChoice};
+ghost use Rattle.p9_laws.specs.ClosingExample.{closing_setup, closed_under, ShowsTheClosing};
+
+/// The copy of a file of the two bytes `hi` is a legal history of a copy's setup.
+pub fn copying_two_bytes_is_legal()
+    ensures { IsLegal copy_setup copied_hi }
+{}
+
+/// After it the proc's turns are over, and the second file took the bytes that the first one gave.
+pub fn copying_two_bytes_copies_them()
+    ensures { ShowsTheCopy }
+{}
+
+/// Where a sender finds a waiting receiver, the receiver runs first: the history in which the sender does is legal up
+/// to that turn, its entry 18, and wrong there.
+pub fn sender_before_receiver_is_not_legal()
+    ensures { IsWrongAt copy_setup swapped 18 }
+{}
+
+/// Threads of two procs that run by turns, until one of them ends them all, are a legal history.
+pub fn taking_turns_is_legal()
+    ensures { IsLegal turns_setup by_turns }
+{}
+
+/// A proc makes no request of a thread that runs in another one, and once all threads are ended its turns are over.
+pub fn taking_turns_shows_the_turns()
+    ensures { ShowsTheTurns }
+{}
+
+/// A channel for one element that a thread makes, fills, closes, empties and frees is a legal history.
+pub fn using_a_channel_is_legal()
+    ensures { IsLegal channel_setup by_a_channel }
+{}
+
+/// Once it is freed no request names it, and the next channel has another id.
+pub fn using_a_channel_frees_it()
+    ensures { ShowsTheChannel }
+{}
+
+/// An alt on three channels takes the element of the only one that has one, and then doesn't block.
+pub fn taking_the_ready_entry_is_legal()
+    ensures { IsLegal ready_setup one_ready }
+{}
+
+/// It draws no word, since there is no choice.
+pub fn taking_the_ready_entry_draws_nothing()
+    ensures { ShowsNoChoice }
+{}
+
+/// Two threads that each send or receive on a channel meet, and a word says which of them sends.
+pub fn choosing_an_entry_is_legal()
+    ensures { IsLegal choice_setup two_ready }
+{}
+
+/// One word is drawn, nobody waits any more, and the thread that waited runs first.
+pub fn choosing_an_entry_draws_a_word()
+    ensures { ShowsTheChoice }
+{}
+
+/// Three threads wait on a channel that is closed, and each is told so once, in the order of their calls.
+pub fn closing_a_channel_is_legal()
+    ensures { IsLegal closing_setup closed_under }
+{}
+
+/// Nobody waits on it any more, and the three threads are ready.
+pub fn closing_a_channel_wakes_all()
+    ensures { ShowsTheClosing }
+{}

@@ -1,8 +1,0 @@
-use Rattle.std.proofs.Common.{sym, ◌∙◌}
-use Rattle.p9_machine.specs.declared.desk.Desk.{Desk}
-use Rattle.p9_manual.specs.Places.{has_call}
-use Rattle.p9_machine.proofs.Places.{any_map}
-use Rattle.p9_machine.proofs.next.some_has_call.Goals as goal
-
-pub returns : goal.returns
-returns c = c.some_desk_has_call.ensures ∙ sym (any_map (λ (d : Desk). d.ioproc) has_call c.args.desks.now)

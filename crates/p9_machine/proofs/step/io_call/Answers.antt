@@ -1,0 +1,7 @@
+use Rattle.p9_machine.proofs.Dispatch.{io_served}
+use Rattle.p9_machine.proofs.step.io_call.Goals as goal
+
+pub returns-clause-gives : goal.returns-clause-gives
+returns-clause-gives c = λ s st sound.
+    let at = c.call.ensures.served c.args.board.now.setup s (record { threads = st.sched; ioprocs = st.io; sound = sound }) in
+    io_served c.args.board.now s _ c.call.result c.call.new.sched c.call.new.io c.call.ensures.entry at st

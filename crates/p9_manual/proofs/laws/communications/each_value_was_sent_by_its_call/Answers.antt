@@ -1,5 +1,0 @@
-use Rattle.p9_manual.proofs.Moves.Laws.{moves_sent}
-use Rattle.p9_manual.proofs.laws.communications.each_value_was_sent_by_its_call.Goals as goal
-
-pub returns : goal.returns
-returns c = moves_sent

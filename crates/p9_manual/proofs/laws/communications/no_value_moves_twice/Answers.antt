@@ -1,5 +1,0 @@
-use Rattle.p9_manual.proofs.Moves.Laws.{moves_once}
-use Rattle.p9_manual.proofs.laws.communications.no_value_moves_twice.Goals as goal
-
-pub returns : goal.returns
-returns c = moves_once

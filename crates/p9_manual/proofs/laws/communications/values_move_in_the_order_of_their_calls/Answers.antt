@@ -1,5 +1,0 @@
-use Rattle.p9_manual.proofs.Moves.Laws.{places_rise}
-use Rattle.p9_manual.proofs.laws.communications.values_move_in_the_order_of_their_calls.Goals as goal
-
-pub returns : goal.returns
-returns c = places_rise

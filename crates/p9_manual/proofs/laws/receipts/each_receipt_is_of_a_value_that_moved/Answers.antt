@@ -1,5 +1,0 @@
-use Rattle.p9_manual.proofs.Receipts.Laws.{receipts_moved}
-use Rattle.p9_manual.proofs.laws.receipts.each_receipt_is_of_a_value_that_moved.Goals as goal
-
-pub returns : goal.returns
-returns c = receipts_moved

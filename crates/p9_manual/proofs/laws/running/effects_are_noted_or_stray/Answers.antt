@@ -1,5 +1,0 @@
-use Rattle.p9_manual.proofs.IoLaws.{did_replies}
-use Rattle.p9_manual.proofs.laws.running.effects_are_noted_or_stray.Goals as goal
-
-pub returns : goal.returns
-returns c = did_replies

@@ -1,5 +1,0 @@
-use Rattle.p9_manual.proofs.IoLaws.{taken_noted}
-use Rattle.p9_manual.proofs.laws.running.effects_of_taken_calls_are_noted.Goals as goal
-
-pub returns : goal.returns
-returns c = taken_noted

@@ -1,5 +1,0 @@
-use Rattle.p9_manual.proofs.RunLaws.{lives_go}
-use Rattle.p9_manual.proofs.laws.running.lives_go_on.Goals as goal
-
-pub returns : goal.returns
-returns c = lives_go

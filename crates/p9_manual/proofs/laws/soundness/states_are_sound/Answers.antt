@@ -1,5 +1,0 @@
-use Rattle.p9_manual.proofs.Sound.Histories.{state_sound}
-use Rattle.p9_manual.proofs.laws.soundness.states_are_sound.Goals as goal
-
-pub returns : goal.returns
-returns c = state_sound c.args.setup.now c.args.entries.now c.requires

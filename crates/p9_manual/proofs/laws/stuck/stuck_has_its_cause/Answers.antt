@@ -1,5 +1,0 @@
-use Rattle.p9_manual.proofs.StuckLaws.{stuck_cause}
-use Rattle.p9_manual.proofs.laws.stuck.stuck_has_its_cause.Goals as goal
-
-pub returns : goal.returns
-returns c = stuck_cause

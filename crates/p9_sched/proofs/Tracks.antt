@@ -1,0 +1,179 @@
+-- What each call makes of the states that a schedule stands for.
+use Rattle.std.proofs.Common.{◌≡◌, ℕ, ◌+◌, ◌-◌, ◌<◌, Bool, true, false, not, cond, List, [], ◌∷◌, ◌++◌, length, map, Option, Some, None, Result, Ok, Err, OnOk, OnErr, refl, ap, sym, subst, ◌∙◌, arith, rules, tests}
+use Rattle.std.specs.Prelude.{◌==◌, if◌then◌else◌, option_map}
+use Rattle.std.specs.List.{filter}
+use Rattle.std.proofs.lemmas.List.{length-map}
+use Rattle.p9_word.specs.declared.answer.Answer.{Answer}
+use Rattle.p9_word.specs.declared.request.Request.{Request}
+use Rattle.p9_word.specs.declared.trail.Reply.TheVariants.{Idle}
+use Rattle.p9_manual.specs.declared.state.Place.TheVariants.{Running, Ready, Waiting, Ended}
+use Rattle.p9_manual.specs.declared.state.Thread.{Thread}
+use Rattle.p9_manual.specs.Create.{fresh, with_thread}
+use Rattle.p9_manual.specs.Ends.{at_end, ended as state_ended, all_ended as state_all_ended}
+use Rattle.p9_manual.specs.Next.{stuck, started, turn, next_of}
+use Rattle.p9_manual.specs.Places.{is_of}
+use Rattle.p9_manual.specs.Standing.{StandOnce, times}
+use Rattle.p9_manual.specs.State.{State, by_id, pick, placed, changed, same, readied as state_readied, waiting as state_waiting}
+use Rattle.p9_manual.specs.Stuck.{is_stuck}
+use Rattle.p9_manual.specs.Threads.{with_changed, with_proc_word as with_word_in, set_proc_word}
+use Rattle.p9_sched.specs.Schedule.{Schedule, Rooms, all_rooms, IsPlace, proc_of, line_of, emptied, with_new, with_proc, with_proc_word, readied, waiting, ended, all_ended, begun}
+use Rattle.p9_sched.specs.Stands.{AreLines, SchedFor, Tracks, TracksStanding, proc_with, after_next, with_proc_in}
+use Rattle.p9_sched.specs.Turns.{turn_of, next_in}
+use Rattle.p9_sched.specs.declared.turns.Ready.{Ready as Turn}
+use Rattle.p9_sched.proofs.Lines.{KeepsProc, parts_changed, parts_ready, parts_wait, parts_ended, parts_all_ended, parts_made, parts_begun, first_of, none_picked}
+use Rattle.p9_sched.proofs.Lists.{by_id-past, length-changed, map-changed}
+
+-- only the rooms change
+pub tracks_rooms : (rooms : Rooms) (old new : Schedule) → new ≡ record old { rooms = rooms } → Tracks (λ s. s) old new
+tracks_rooms rooms old new e = λ places s h.
+    rw e (record { threads = h.threads; lines = record { part = h.lines.part }; procs = h.procs; opened = h.opened; count = h.count })
+
+pub tracks_reserved : {T E : Type 0} (r : Result T E) (old new : Schedule) → OnOk r (new ≡ record old { rooms = all_rooms }) → OnErr r (new ≡ old) → Tracks (λ s. s) old new
+tracks_reserved (Ok x) old new ok err = tracks_rooms all_rooms old new ok
+tracks_reserved (Err x) old new ok err = tracks_rooms old.rooms old new err
+
+pub tracks_readied : (t : ℕ) (a : Answer) (old new : Schedule) → new ≡ readied t a old → IsPlace (proc_of (by_id old.threads t)) old → Tracks (state_readied t a) old new
+tracks_readied t a old new e place = λ places s h.
+    rw e (record {
+      threads = ap (placed t (Ready a)) h.threads;
+      lines = parts_ready t a old (readied t a old) s.line refl place h.lines;
+      procs = h.procs;
+      opened = h.opened;
+      count = length-changed _ old.lines _ ∙ h.count;
+    })
+
+pub tracks_waiting : (t : ℕ) (request : Request) (old new : Schedule) → new ≡ waiting t old → Tracks (λ s. (state_waiting t request s).state) old new
+tracks_waiting t request old new e = λ places s h.
+    rw e (record {
+      threads = ap (placed t Waiting) h.threads;
+      lines = parts_wait t old (waiting t old) s.line refl h.lines;
+      procs = h.procs;
+      opened = h.opened;
+      count = h.count;
+    })
+
+ended_by : (o : Option Thread) (t : ℕ) (old : Schedule) (line : List ℕ) → by_id old.threads t ≡ o → IsPlace (proc_of o) old → AreLines old line → AreLines (ended t old) (filter (λ u. not (u == t)) line)
+ended_by None t old line e place h = let from = place.from in absurd (omega arith)
+ended_by (Some thread) t old line e place h = parts_ended t old thread line e place.from h
+
+pub tracks_ended : (t : ℕ) (old new : Schedule) → new ≡ ended t old → IsPlace (proc_of (by_id old.threads t)) old → Tracks (state_ended t) old new
+tracks_ended t old new e place = λ places s h.
+    rw e (record {
+      threads = ap (placed t Ended) h.threads;
+      lines = ended_by (by_id old.threads t) t old s.line refl place h.lines;
+      procs = h.procs;
+      opened = h.opened;
+      count = length-changed _ old.lines _ ∙ h.count;
+    })
+
+pub tracks_all_ended : (old new : Schedule) → new ≡ all_ended old → Tracks state_all_ended old new
+tracks_all_ended old new e = λ places s h.
+    rw e (record {
+      threads = ap (map at_end) h.threads;
+      lines = parts_all_ended old;
+      procs = h.procs;
+      opened = h.opened;
+      count = length-map old.lines emptied ∙ h.count;
+    })
+
+-- a thread is changed, but not its proc
+pub tracks_changed : (f : Thread → Thread) → KeepsProc f → (t : ℕ) (rooms : Rooms) (old new : Schedule) → new ≡ record old { threads = changed f old.threads (t - 1); rooms = rooms } → Tracks (with_changed f t) old new
+tracks_changed f keeps t rooms old new e = λ places s h.
+    rw e (record {
+      threads = ap (λ (xs : List Thread). changed f xs (t - 1)) h.threads;
+      lines = parts_changed f keeps old _ (t - 1) s.line refl refl h.lines;
+      procs = h.procs;
+      opened = h.opened;
+      count = h.count;
+    })
+
+pub tracks_worded : (p word : ℕ) (old new : Schedule) → new ≡ with_proc_word p word old → Tracks (λ s. (set_proc_word p word s).state) old new
+tracks_worded p word old new e = λ places s h.
+    rw e (record {
+      threads = h.threads;
+      lines = record { part = h.lines.part };
+      procs = ap (λ ps. changed (with_word_in word) ps (p - 1)) h.procs ∙ sym (map-changed proc_with (λ _. word) (with_word_in word) (λ x. refl) old.words (p - 1));
+      opened = h.opened;
+      count = h.count;
+    })
+
+-- the next id stands nowhere in the line
+next_is_new : (old : Schedule) (s : State) → s.threads ≡ old.threads → StandOnce s.threads s.line s.waits → times (λ u. u == length old.threads + 1) s.line ≡ 0
+next_is_new old s e stand = stand.in_line (length old.threads + 1) ∙ (rw (e, by_id-past old.threads (length old.threads + 1) (omega arith)) refl)
+
+pub tracks_made : (p program arg group : ℕ) (old new : Schedule) → new ≡ with_new p program arg group old → IsPlace p old → TracksStanding (with_thread p program arg group) old new
+tracks_made p program arg group old new e place = λ places s stand h.
+    rw e (record {
+      threads = ap (λ (xs : List Thread). xs ++ fresh p program arg group ∷ []) h.threads;
+      lines = rw h.threads (parts_made p (fresh p program arg group) old _ s.line place.from place.to refl refl refl (next_is_new old s h.threads stand) h.lines);
+      procs = h.procs;
+      opened = h.opened;
+      count = length-changed _ old.lines (p - 1) ∙ h.count;
+    })
+
+-- so many procs are open
+opened_more : (n places : ℕ) (old : Schedule) (s : State) → SchedFor places old s → SchedFor places (record old { opened = n }) (record s { opened = n })
+opened_more n places old s h = record { threads = h.threads; lines = record { part = h.lines.part }; procs = h.procs; opened = refl; count = h.count }
+
+pub tracks_opened : (program arg group : ℕ) (old new : Schedule) → new ≡ with_proc program arg group old → old.opened < length old.lines → TracksStanding (with_proc_in program arg group) old new
+tracks_opened program arg group old new e lt = λ places s stand h.
+    let n = old.opened + 1 in
+    let place : IsPlace n (record old { opened = n }) = record { from = omega arith; to = omega arith } in
+    rw h.opened (tracks_made n program arg group (record old { opened = n }) new e place places (record s { opened = n }) stand (opened_more n places old s h))
+
+-- where a proc has no ready thread
+idle_by : (b : Bool) (places : ℕ) (sched : Schedule) (s : State) → SchedFor places sched s → SchedFor places sched (if b then stuck s else same Idle s).state
+idle_by true places sched s h = record { threads = h.threads; lines = h.lines; procs = h.procs; opened = h.opened; count = h.count }
+idle_by false places sched s h = h
+
+passes_if : (b : Bool) (p : ℕ → Bool) (x t : ℕ) (xs rest : List ℕ) → p x ≡ b → cond b (x ∷ xs) xs ≡ t ∷ rest → (xs ≡ t ∷ rest → p t ≡ true) → p t ≡ true
+passes_if true p x t xs rest e h more = let same : x ≡ t = cc in rw (← same) e
+passes_if false p x t xs rest e h more = more h
+
+-- the first of those that pass passes
+pub first_passes : (p : ℕ → Bool) (t : ℕ) (rest : List ℕ) → (line : List ℕ) → filter p line ≡ t ∷ rest → p t ≡ true
+first_passes p t rest [] h = absurd (cc h)
+first_passes p t rest (x ∷ line) h = passes_if (p x) p x t (filter p line) rest refl h (first_passes p t rest line)
+
+-- a thread of proc p
+pub record IsIn (p : ℕ) (o : Option Thread) : Type 0 where
+  pub thread : Thread
+  pub there : o ≡ Some thread
+  pub mine : thread.proc_no ≡ p
+
+pub is_in : (p : ℕ) (o : Option Thread) → is_of p o ≡ true → IsIn p o
+is_in p None h = absurd (cc h)
+is_in p (Some thread) h = record { thread = thread; there = refl; mine = search (rules, tests) }
+
+none_next : (places : ℕ) (sched : Schedule) (s : State) (o : Option (ℕ × List ℕ)) → o ≡ None → SchedFor places sched s → SchedFor places sched (next_of s o).state
+none_next places sched s None e h = idle_by (is_stuck s) places sched s h
+none_next places sched s (Some found) e h = absurd (cc e)
+
+-- the state once thread t, which was picked, runs
+begun_state : (p t : ℕ) (others : List ℕ) (thread : Thread) (s : State) → pick (λ u. is_of p (by_id s.threads u)) s.line ≡ Some (t, others) → by_id s.threads t ≡ Some thread → after_next p s ≡ record s { line = others; threads = placed t Running s.threads }
+begun_state p t others thread s picked there =
+    ap (λ (o : Option (ℕ × List ℕ)). (next_of s o).state) picked ∙ ap (λ (o : Option Thread). (turn t (record s { line = others }) (option_map started o)).state) there
+
+turned : (p : ℕ) (ready : Option Turn) (line : List ℕ) (old new : Schedule) → line_of p old ≡ line → (ready, new) ≡ turn_of p old line → IsPlace p old → Tracks (after_next p) old new
+turned p ready [] old new at e place = λ places s h.
+    let n : new ≡ old = ap (λ (x : Option Turn × Schedule). x.1) e in
+    let part = h.lines.part p place.from place.to in
+    let none : pick (λ t. is_of p (by_id s.threads t)) s.line ≡ None = none_picked (λ t. is_of p (by_id s.threads t)) s.line (rw h.threads (sym part ∙ at)) in
+    rw n (none_next places old s (pick (λ t. is_of p (by_id s.threads t)) s.line) none h)
+turned p ready (t ∷ rest) old new at e place = λ places s h.
+    let n : new ≡ begun p t old = ap (λ (x : Option Turn × Schedule). x.1) e in
+    let part = h.lines.part p place.from place.to in
+    let its : filter (λ u. is_of p (by_id old.threads u)) s.line ≡ t ∷ rest = sym part ∙ at in
+    let first = first_of (λ u. is_of p (by_id old.threads u)) t rest s.line its in
+    let thread = is_in p (by_id old.threads t) (first_passes (λ u. is_of p (by_id old.threads u)) t rest s.line its) in
+    let now = begun_state p t first.others thread.thread s (rw h.threads first.picked) (rw h.threads thread.there) in
+    rw n (subst (λ (x : State). SchedFor places (begun p t old) x) (sym now) (record {
+      threads = ap (placed t Running) h.threads;
+      lines = parts_begun p t rest s.line old thread.thread place.from thread.there thread.mine at first h.lines;
+      procs = h.procs;
+      opened = h.opened;
+      count = length-changed _ old.lines (p - 1) ∙ h.count;
+    }))
+
+pub tracks_turn : (p : ℕ) (ready : Option Turn) (old new : Schedule) → (ready, new) ≡ next_in p old → IsPlace p old → Tracks (after_next p) old new
+tracks_turn p ready old new e place = turned p ready (line_of p old) old new refl e place
