@@ -17,6 +17,7 @@ use Rattle.p9_manual.specs.Files.{At, TreatsAsFile, after, given, joined, with_p
 use Rattle.p9_outside.specs.Reading.{ReadServes, reader_at, IsFull, FullReads, rest_after, has_got_failed}
 use Rattle.p9_outside.specs.Writing.{WriteServes, writer_at}
 use Rattle.p9_outside.specs.FileServices.{FileServes, failures}
+use Rattle.p9_outside.specs.FileRuns.{FileRuns, FilesRun}
 use Rattle.p9_outside.specs.Reached.{Reached}
 use Rattle.p9_outside.proofs.Streams.{consumes_more, consumes_none, appends_more, appends_none}
 
@@ -63,18 +64,22 @@ full_told : (failed : Bool) (call : IoCall) (effect : Effect) (told now : Option
 full_told failed call effect None now is full = full_none failed call effect
 full_told failed call effect (Some xs) now is full = rw is at full
 
+rest_self : (told : Option (List ℕ)) → IsRest told told
+rest_self None = tt
+rest_self (Some xs) = refl
+
 module _ {S : Type 0} (left : S → Option (List ℕ)) (faults : S → ℕ) where
-  pub reader_is_file : (first last : ReadDevice S) (services : List (IoCall × Effect)) → Reached (ReadServes left faults) first services last → TreatsAsFile false (reader_at first) services
+  reader_is_file : (first last : ReadDevice S) (services : List (IoCall × Effect)) → Reached (ReadServes left faults) first services last → TreatsAsFile false (reader_at first) services
   reader_is_file first last [] reached = tt
   reader_is_file first last (s ∷ services) reached =
       (reached.1.file, subst (λ (at : At). TreatsAsFile false at services) reached.1.state (reader_is_file reached.0 last services reached.2))
 
-  pub reader_gives : (first last : ReadDevice S) (services : List (IoCall × Effect)) → Reached (ReadServes left faults) first services last → Consumes (left first.source) (left last.source) (joined (given services))
+  reader_gives : (first last : ReadDevice S) (services : List (IoCall × Effect)) → Reached (ReadServes left faults) first services last → Consumes (left first.source) (left last.source) (joined (given services))
   reader_gives first last [] reached = subst (λ (d : ReadDevice S). Consumes (left first.source) (left d.source) []) (sym reached) (consumes_none (left first.source))
   reader_gives first last (s ∷ services) reached =
       subst (λ bs. Consumes (left first.source) (left last.source) bs) (sym (joined_piece (got s.1) (given services))) (consumes_more _ _ _ _ _ reached.1.bytes (reader_gives reached.0 last services reached.2))
 
-  pub reader_full : (first last : ReadDevice S) (services : List (IoCall × Effect)) (told : Option (List ℕ)) → IsRest told (left first.source) → Reached (ReadServes left faults) first services last → FullReads first.has_failed told services
+  reader_full : (first last : ReadDevice S) (services : List (IoCall × Effect)) (told : Option (List ℕ)) → IsRest told (left first.source) → Reached (ReadServes left faults) first services last → FullReads first.has_failed told services
   reader_full first last [] told is reached = tt
   reader_full first last (s ∷ services) told is reached =
       let is' = rest_on told _ _ _ is reached.1.bytes in
@@ -82,46 +87,61 @@ module _ {S : Type 0} (left : S → Option (List ℕ)) (faults : S → ℕ) wher
       (full_told first.has_failed s.0 s.1 _ _ is' reached.1.full, subst (λ (b : Bool). FullReads b (rest_after (got s.1) told) services) failed (reader_full reached.0 last services _ is' reached.2))
 
   -- no more effects failed than the count rose by
-  pub reader_tells : (first last : ReadDevice S) (services : List (IoCall × Effect)) → Reached (ReadServes left faults) first services last → RoseBy (failures services) (faults first.source) (faults last.source)
+  reader_tells : (first last : ReadDevice S) (services : List (IoCall × Effect)) → Reached (ReadServes left faults) first services last → RoseBy (failures services) (faults first.source) (faults last.source)
   reader_tells first last [] reached = subst (λ (d : ReadDevice S). RoseBy 0 (faults first.source) (faults d.source)) (sym reached) (omega arith, omega arith)
   reader_tells first last (s ∷ services) reached =
       rises_on _ _ _ (has_failed s.1) (failures services) reached.1.tells.later reached.1.tells.cause (reader_tells reached.0 last services reached.2)
 
 module _ {K : Type 0} (held : K → Option (List ℕ)) (faults : K → ℕ) where
-  pub writer_is_file : (first last : WriteDevice K) (services : List (IoCall × Effect)) → Reached (WriteServes held faults) first services last → TreatsAsFile true (writer_at first) services
+  writer_is_file : (first last : WriteDevice K) (services : List (IoCall × Effect)) → Reached (WriteServes held faults) first services last → TreatsAsFile true (writer_at first) services
   writer_is_file first last [] reached = tt
   writer_is_file first last (s ∷ services) reached =
       (reached.1.file, subst (λ (at : At). TreatsAsFile true at services) reached.1.state (writer_is_file reached.0 last services reached.2))
 
-  pub writer_takes : (first last : WriteDevice K) (services : List (IoCall × Effect)) → Reached (WriteServes held faults) first services last → Appends (held first.sink) (held last.sink) (written services)
+  writer_takes : (first last : WriteDevice K) (services : List (IoCall × Effect)) → Reached (WriteServes held faults) first services last → Appends (held first.sink) (held last.sink) (written services)
   writer_takes first last [] reached = subst (λ (d : WriteDevice K). Appends (held first.sink) (held d.sink) []) (sym reached) (appends_none (held first.sink))
   writer_takes first last (s ∷ services) reached =
       appends_more _ _ _ _ _ reached.1.bytes (writer_takes reached.0 last services reached.2)
 
-  pub writer_tells : (first last : WriteDevice K) (services : List (IoCall × Effect)) → Reached (WriteServes held faults) first services last → RoseBy (failures services) (faults first.sink) (faults last.sink)
+  writer_tells : (first last : WriteDevice K) (services : List (IoCall × Effect)) → Reached (WriteServes held faults) first services last → RoseBy (failures services) (faults first.sink) (faults last.sink)
   writer_tells first last [] reached = subst (λ (d : WriteDevice K). RoseBy 0 (faults first.sink) (faults d.sink)) (sym reached) (omega arith, omega arith)
   writer_tells first last (s ∷ services) reached =
       rises_on _ _ _ (has_failed s.1) (failures services) reached.1.tells.later reached.1.tells.cause (writer_tells reached.0 last services reached.2)
 
 module _ {S K : Type 0} (left : S → Option (List ℕ)) (faults : S → ℕ) (held : K → Option (List ℕ)) (counts : K → ℕ) where
   -- a device keeps its direction
-  pub stays_in : (first : ReadDevice S) (last : FileDevice S K) (services : List (IoCall × Effect)) → Reached (FileServes left faults held counts) (In first) services last → (now : ReadDevice S) × (last ≡ In now) × Reached (ReadServes left faults) first services now
+  stays_in : (first : ReadDevice S) (last : FileDevice S K) (services : List (IoCall × Effect)) → Reached (FileServes left faults held counts) (In first) services last → (now : ReadDevice S) × (last ≡ In now) × Reached (ReadServes left faults) first services now
   stays_in first last [] reached = (first, reached, refl)
   stays_in first last (s ∷ services) (In next, step, on) =
       let rest = stays_in next last services on in
       (rest.0, rest.1, (next, step, rest.2))
   stays_in first last (s ∷ services) (Out next, step, on) = absurd step
 
-  pub stays_out : (first : WriteDevice K) (last : FileDevice S K) (services : List (IoCall × Effect)) → Reached (FileServes left faults held counts) (Out first) services last → (now : WriteDevice K) × (last ≡ Out now) × Reached (WriteServes held counts) first services now
+  stays_out : (first : WriteDevice K) (last : FileDevice S K) (services : List (IoCall × Effect)) → Reached (FileServes left faults held counts) (Out first) services last → (now : WriteDevice K) × (last ≡ Out now) × Reached (WriteServes held counts) first services now
   stays_out first last [] reached = (first, reached, refl)
   stays_out first last (s ∷ services) (Out next, step, on) =
       let rest = stays_out next last services on in
       (rest.0, rest.1, (next, step, rest.2))
   stays_out first last (s ∷ services) (In next, step, on) = absurd step
 
-pub rest_self : (told : Option (List ℕ)) → IsRest told told
-rest_self None = tt
-rest_self (Some xs) = refl
+  pub files_run : FilesRun left faults held counts
+  files_run (In first) services last reached =
+      let now = stays_in first last services reached in
+      subst (λ (d : FileDevice S K). FileRuns left faults held counts (In first) services d) (sym now.1)
+      (record {
+        file = reader_is_file left faults first now.0 services now.2;
+        given = reader_gives left faults first now.0 services now.2;
+        full = reader_full left faults first now.0 services (left first.source) (rest_self (left first.source)) now.2;
+        tells = reader_tells left faults first now.0 services now.2;
+      })
+  files_run (Out first) services last reached =
+      let now = stays_out first last services reached in
+      subst (λ (d : FileDevice S K). FileRuns left faults held counts (Out first) services d) (sym now.1)
+      (record {
+        file = writer_is_file held counts first now.0 services now.2;
+        written = writer_takes held counts first now.0 services now.2;
+        tells = writer_tells held counts first now.0 services now.2;
+      })
 
 -- nothing is said where nothing is told
 pub full_untold : (failed : Bool) (services : List (IoCall × Effect)) → FullReads failed None services

@@ -1,5 +1,5 @@
 -- The source and the sink in memory: what each has left or holds, and which of its calls fail.
-use Rattle.std.specs.Prelude.{ℕ, ◌≡◌, ◌+◌, ◌-◌, ◌^◌, min, List, length, drop}
+use Rattle.std.specs.Prelude.{ℕ, ◌≡◌, ◌+◌, ◌-◌, ◌^◌, ◌⊎◌, min, List, length, drop, Contains}
 use Rattle.p9_outside.specs.declared.memory.source.MemSource.{MemSource}
 use Rattle.p9_outside.specs.declared.memory.sink.MemSink.{MemSink}
 
@@ -65,6 +65,10 @@ pub record WritesOn (old new : MemSink) : Type 0 where
   pub most : sink_most new ≡ sink_most old
   pub fails : sink_fails new ≡ sink_fails old
   pub calls : sink_calls new ≡ counted (sink_calls old)
+
+-- the next write fails: that is planned, or the room is full
+abbrev pub WriteFails : MemSink → Type 0
+WriteFails s = Contains (sink_fails s) (counted (sink_calls s)) ⊎ (length (sink_held s) ≡ sink_room s)
 
 -- how many bytes one write takes: the fewest of those offered, those that there is room for, and the most
 abbrev pub write_count : MemSink → ℕ → ℕ

@@ -1,14 +1,15 @@
 -- Files in memory: their contents, the failures planned, the room of a sink, and the calls that failed.
-use Rattle.std.specs.Prelude.{ℕ, ◌≡◌, List, [], ◌∷◌, true, false, Option, Some, None, cond, bytes_eq}
+use Rattle.std.specs.Prelude.{ℕ, ◌≡◌, ◌⊎◌, ◌++◌, List, [], ◌∷◌, true, false, Option, Some, None, cond, bytes_eq}
 use Rattle.p9_outside.specs.declared.memory.files.Held.{Held}
 use Rattle.p9_outside.specs.declared.memory.files.MemFiles.{MemFiles}
 use Rattle.p9_outside.specs.declared.memory.plans.Plan.{Plan}
 use Rattle.p9_outside.specs.declared.memory.plans.PathFail.{PathFail}
+use Rattle.p9_outside.specs.declared.memory.plans.PathFail.TheVariants.{Source}
 use Rattle.p9_outside.specs.declared.memory.source.MemSource.{MemSource}
 use Rattle.p9_outside.specs.declared.memory.sink.MemSink.{MemSink}
 use Rattle.p9_outside.specs.Contents.{Told}
 use Rattle.p9_outside.specs.Memory.{counted, source_left, source_most, source_fails, source_calls, source_faults, sink_held, sink_room, sink_most, sink_fails, sink_calls, sink_faults}
-use Rattle.p9_outside.specs.Plans.{spent, numbers}
+use Rattle.p9_outside.specs.Plans.{planned, is_planned, spent, numbers}
 
 -- the contents of a path: those of its entry
 abbrev pub found : List Held → List ℕ → Option (List ℕ)
@@ -42,6 +43,18 @@ no_files = record { held = []; plans = []; room = 1048576; faults = 0 }
 -- the contents by path, which are told
 abbrev pub contents_of : MemFiles → Told
 contents_of f = Some (found (parts_of f).held)
+
+-- the contents of a path, or None
+abbrev pub bytes_at : MemFiles → List ℕ → Option (List ℕ)
+bytes_at f path = found (parts_of f).held path
+
+-- one failure more is planned
+abbrev pub with_plan : Parts → List ℕ → PathFail → Parts
+with_plan parts path fail = record parts { plans = parts.plans ++ planned path fail ∷ [] }
+
+-- no source of the path can be opened: that is planned to fail, or the path has no contents
+abbrev pub CannotOpen : Parts → List ℕ → Type 0
+CannotOpen parts path = (is_planned parts.plans path Source ≡ true) ⊎ (found parts.held path ≡ None)
 
 -- a call that failed is counted, and uses up the plan that failed it, if one did
 abbrev pub after_failure : Parts → List ℕ → PathFail → Parts

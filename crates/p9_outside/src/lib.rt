@@ -10,6 +10,7 @@
 mod device;
 mod file_device;
 mod files;
+pub mod laws;
 mod memory;
 mod reading;
 mod real;
@@ -27,5 +28,7 @@ pub use sink::Sink;
 pub use source::{Failed, Source};
 pub use writing::{WriteDevice, drain};
 
+#[cfg(test)]
+mod refusal_tests;
 #[cfg(test)]
 mod tests;

@@ -2,6 +2,7 @@ mod closings;
 mod file_sink;
 mod files;
 mod opening;
+mod place;
 mod std_sink;
 mod std_source;
 mod temporary;

@@ -1,9 +1,9 @@
-ghost use Rattle.std.specs.Prelude.{◌≡◌, ◌<◌, ◌≤◌, ◌∷◌, ◌++◌, ◌⊎◌, [], length, remove, true, false, Some, None, IfOk, OnOk, OnErr, MatchOption};
+ghost use Rattle.std.specs.Prelude.{◌≡◌, ◌<◌, ◌≤◌, ◌∷◌, length, remove, true, false, Some, None, IfOk, OnOk, OnErr, MatchOption};
 ghost use Rattle.p9_outside.specs.Causes.{Rose};
 ghost use Rattle.p9_outside.specs.Contents.{Stay, Opens, IsFresh, Puts};
 ghost use Rattle.p9_outside.specs.Memory.{source_left, sink_held};
-ghost use Rattle.p9_outside.specs.MemoryFiles.{found, without, entry, no_files, parts_of, contents_of, after_failure, KeepsPlans, IsSourceOf, IsSinkOf, OpensIn};
-ghost use Rattle.p9_outside.specs.Plans.{planned, is_planned};
+ghost use Rattle.p9_outside.specs.MemoryFiles.{found, without, entry, no_files, parts_of, contents_of, bytes_at, with_plan, CannotOpen, after_failure, KeepsPlans, IsSourceOf, IsSinkOf, OpensIn};
+ghost use Rattle.p9_outside.specs.Plans.{is_planned};
 
 use crate::memory::plans::{Plan, planned_numbers, spend};
 use crate::{Files, FilesFault, MemSink, MemSource, PathFail};
@@ -104,7 +104,7 @@ impl MemFiles {
 
     /// The contents of the path, or `None` where it has none.
     pub fn get(&self, path: &[u8]) -> Option<&[u8]>
-        ensures { MatchOption result (found (parts_of self.now).held path.now ≡ None) (λ s. found (parts_of self.now).held path.now ≡ Some s.now) }
+        ensures { MatchOption result (bytes_at self.now path.now ≡ None) (λ s. bytes_at self.now path.now ≡ Some s.now) }
     {
         match find(&self.held, path) {
             Some(bytes) => Some(bytes.as_slice()),
@@ -114,7 +114,7 @@ impl MemFiles {
 
     /// Plans one failure of a call on the path. Where memory is wanted nothing changes.
     pub fn plan(&mut self, path: &[u8], fail: PathFail) -> Result<(), NoMemory>
-        ensures ok { OnOk result (parts_of self.new ≡ record (parts_of self.old) { plans = (parts_of self.old).plans ++ planned path.now fail ∷ [] }) }
+        ensures ok { OnOk result (parts_of self.new ≡ with_plan (parts_of self.old) path.now fail) }
         ensures err { OnErr result (parts_of self.new ≡ parts_of self.old) }
     {
         let path = Msg::from_slice(self.alloc, path)?;
@@ -167,7 +167,7 @@ impl Files for MemFiles {
         ensures made { IfOk result (λ s. IsSourceOf (parts_of self.old) path.now s) }
         ensures kept { OnOk result (parts_of self.new ≡ parts_of self.old) }
         ensures memory { result ≡ Err FilesFault.Memory → parts_of self.new ≡ parts_of self.old }
-        ensures cause { result ≡ Err FilesFault.Failed → (is_planned (parts_of self.old).plans path.now PathFail.Source ≡ true) ⊎ (found (parts_of self.old).held path.now ≡ None) }
+        ensures cause { result ≡ Err FilesFault.Failed → CannotOpen (parts_of self.old) path.now }
         ensures counts { result ≡ Err FilesFault.Failed → parts_of self.new ≡ after_failure (parts_of self.old) path.now PathFail.Source }
     {
         if !spend(&mut self.plans, path, PathFail::Source) {

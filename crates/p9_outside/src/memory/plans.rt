@@ -51,7 +51,7 @@ fn is_for(plan: &Plan, path: &[u8], fail: PathFail) -> bool
 /// The place of the first plan of this path and this failure.
 fn place(plans: &[Plan], path: &[u8], fail: PathFail) -> Option<usize>
     ensures planned { MatchOption result (is_planned plans.now path.now fail ≡ false) (λ i. is_planned plans.now path.now fail ≡ true) }
-    ensures spent { MatchOption result (spent plans.now path.now fail ≡ plans.now) (λ i. spent plans.now path.now fail ≡ remove plans.now i) }
+    ensures spent { let left = spent plans.now path.now fail in MatchOption result (left ≡ plans.now) (λ i. left ≡ remove plans.now i) }
     ensures within { MatchOption result (0 ≤ 0) (λ i. i < length plans.now) }
 {
     for i in 0..plans.len() {

@@ -85,11 +85,11 @@ impl MemSink {
 }
 
 impl Sink for MemSink {
-    ghost use Rattle.std.specs.Prelude.{◌<◌, ◌↔◌, ◌⊎◌, Some, IsErr, Contains};
+    ghost use Rattle.std.specs.Prelude.{◌<◌, ◌↔◌, Some, IsErr};
     ghost use Rattle.std.specs.Io.{WritesAtMost};
     ghost use Rattle.std.specs.Io.KnownBytes.{WriteAppends};
     ghost use Rattle.p9_outside.specs.Causes.{HasCause};
-    ghost use Rattle.p9_outside.specs.Memory.{sink_held, sink_room, sink_fails, sink_calls, sink_faults, counted, WritesOn, write_count};
+    ghost use Rattle.p9_outside.specs.Memory.{sink_held, sink_faults, WriteFails, WritesOn, write_count};
 
     ghost held = { λ s. Some (sink_held s) };
 
@@ -103,7 +103,7 @@ impl Sink for MemSink {
         ensures bytes { WriteAppends (Some (sink_held self.old)) (Some (sink_held self.new)) result bytes.now }
         ensures cause { HasCause (sink_faults self.old) (sink_faults self.new) result }
         ensures count { IfOk result (λ n. n ≡ write_count self.old (length bytes.now)) }
-        ensures planned { IsErr result ↔ (Contains (sink_fails self.old) (counted (sink_calls self.old)) ⊎ (length (sink_held self.old) ≡ sink_room self.old)) }
+        ensures planned { IsErr result ↔ WriteFails self.old }
         ensures on { WritesOn self.old self.new }
     {
         self.calls = self.calls.saturating_add(1);

@@ -1,56 +1,51 @@
-ghost use Rattle.std.specs.Prelude.{◌≡◌, ◌<◌, IfOk, OnOk, OnErr, length};
+ghost use Rattle.std.specs.Prelude.{◌≡◌, ◌<◌, IsErr, IfOk, OnOk, OnErr, length};
 ghost use Rattle.std.specs.Io.{WritesAtMost};
 ghost use Rattle.std.specs.Io.KnownBytes.{WriteAppends};
 ghost use Rattle.p9_outside.specs.Counts.{raised};
+ghost use Rattle.p9_outside.specs.Adapters.{closed_count};
 
 use crate::real::closings::Closings;
-use crate::real::temporary::Temporary;
+use crate::real::place::Place;
 use crate::{Failed, Sink, StdSink};
-use std::fs::{File, OpenFile, Permissions};
+use std::fs::File;
 use std::io;
+use std::io::ErrorKind;
 use std::rt::Files;
 
 /// A file of the system that is written. It tells no bytes, but counts those that it took.
 ///
-/// A regular file stands under a temporary name, in the folder of its path, until
-/// [`crate::Files::close`] gives it its own. Where the sink is let go before, the temporary file is
-/// removed. All else, as a device or a pipe, is written in place.
+/// The contents of a regular file stand under a temporary name, in the folder of its path, until
+/// [`crate::Files::close`] puts them in its place. Where the sink is let go before, or a write has failed,
+/// the temporary file is removed, and the path has what it had. All else, as a device or a pipe, and a file
+/// beside which none can be made, is written in place.
 pub struct FileSink<'a, R: Files<File = File>> {
     rt: &'a R,
     sink: StdSink<File>,
-    temporary: Option<Temporary>,
+    place: Place,
 }
 
 impl<'a, R: Files<File = File>> Drop for FileSink<'a, R> {
     fn drop(self) {
-        let FileSink {
-            rt,
-            sink,
-            temporary,
-        } = self;
+        let FileSink { rt, sink, place } = self;
         drop(sink);
-        if let Some(temporary) = temporary {
+        if let Place::Beside(temporary) = place {
             temporary.remove(rt);
         }
     }
 }
 
 impl<'a, R: Files<File = File>> FileSink<'a, R> {
-    ghost use Rattle.p9_outside.specs.Adapters.{file_taken, file_faults, closed_count};
+    ghost use Rattle.p9_outside.specs.Adapters.{file_taken, file_faults};
 
-    pub(crate) fn new(rt: &'a R, file: File, temporary: Option<Temporary>) -> FileSink<'a, R>
+    pub(crate) fn new(rt: &'a R, file: File, place: Place) -> FileSink<'a, R>
         ensures faults { file_faults result ≡ 0 }
         ensures taken { file_taken result ≡ 0 }
     {
         FileSink {
             rt,
             sink: StdSink::new(file),
-            temporary,
+            place,
         }
-    }
-
-    pub(crate) fn set_permissions(&self, permissions: Permissions) -> io::Result<()> {
-        self.sink.get_ref().set_permissions(permissions)
     }
 
     /// How many bytes the file has taken since it was opened. At the greatest u64 the count stands.
@@ -60,25 +55,40 @@ impl<'a, R: Files<File = File>> FileSink<'a, R> {
         self.sink.taken()
     }
 
-    /// Puts a temporary file in the place of its path, and lets go of one that was written in place.
+    /// Puts a temporary file in the place of its path, and lets go of one that was written in place. A sink
+    /// that met a failure is let go and the failure is answered: a temporary file is removed then.
     pub(crate) fn finish(self, closings: &mut Closings) -> io::Result<()>
+        ensures whole { 0 < file_faults self.entry → IsErr result }
         ensures finished { OnOk result (closed_count closings.new ≡ raised (closed_count closings.old) 1) }
         ensures stays { OnErr result (closed_count closings.new ≡ closed_count closings.old) }
     {
-        let FileSink {
-            rt,
-            sink,
-            temporary,
-        } = self;
+        if self.sink.fault_count() > 0 {
+            return Err(io::Error::from(ErrorKind::Other));
+        }
+        let FileSink { rt, sink, place } = self;
+        let length = sink.taken();
         let file = sink.into_inner();
-        match temporary {
-            Some(temporary) => temporary.take_place(rt, file, closings),
-            None => {
+        match place {
+            Place::Beside(temporary) => temporary.take_place(rt, file, closings),
+            Place::Over => let_go_cut(file, length, closings),
+            Place::On => {
                 closings.let_go(file);
                 Ok(())
             }
         }
     }
+}
+
+/// Lets go of a file that was written over, with what it has past its new contents cut off.
+fn let_go_cut(file: File, length: u64, closings: &mut Closings) -> io::Result<()>
+    ensures finished { OnOk result (closed_count closings.new ≡ raised (closed_count closings.old) 1) }
+    ensures stays { OnErr result (closed_count closings.new ≡ closed_count closings.old) }
+{
+    if file.metadata()?.len() > length {
+        file.set_len(length)?;
+    }
+    closings.let_go(file);
+    Ok(())
 }
 
 impl<'a, R: Files<File = File>> Sink for FileSink<'a, R> {

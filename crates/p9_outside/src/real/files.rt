@@ -1,5 +1,5 @@
-ghost use Rattle.std.specs.Prelude.{◌≡◌, ◌≤◌, None, IsErr, IfOk, OnOk, OnErr};
-ghost use Rattle.p9_outside.specs.Adapters.{real_faults, real_closed, file_taken};
+ghost use Rattle.std.specs.Prelude.{◌≡◌, ◌≤◌, ◌<◌, None, IsErr, IfOk, OnOk, OnErr};
+ghost use Rattle.p9_outside.specs.Adapters.{real_faults, real_closed, file_faults, file_taken};
 ghost use Rattle.p9_outside.specs.Causes.{Rose};
 ghost use Rattle.p9_outside.specs.Contents.{Stay, Opens, IsFresh, Puts};
 ghost use Rattle.p9_outside.specs.Counts.{raised};
@@ -15,9 +15,15 @@ use std::{io, rt};
 /// The files of the system, by paths that are UTF-8. They tell no contents, but count the files that were
 /// closed.
 ///
-/// An output file keeps its old contents until its sink is closed, also where the run is killed, and
-/// keeps its mode. A link is followed and stays a link. A path that is no regular file, as a device or a
-/// pipe, is written in place. A folder can't be opened. The in file and the out file may be one file.
+/// An output file keeps its old contents until its sink is closed, also where the run is killed, and for
+/// good where a write has failed. It keeps its mode, and where that is allowed its owner and group. A link is
+/// followed and stays a link. The in file and the out file may be one file. A folder can't be opened.
+///
+/// A file that has more than one name, or that the system doesn't let be replaced, keeps its old contents
+/// until then too, and then the new ones are copied over them, so that a failure or a kill in that moment
+/// leaves a part of both. Where no file can be made beside it, and where a path is no regular file, as a
+/// device or a pipe, it is written in place from the first write on. A path that leads to an open
+/// descriptor, as `/dev/stdout`, gets the new bytes at its end, and keeps what it has.
 #[derive(Drop)]
 pub struct RealFiles<'a, R> {
     rt: &'a R,
@@ -101,7 +107,8 @@ impl<'a, R: rt::Files<File = File> + Sync> Files for RealFiles<'a, R> {
         self.told(opened)
     }
 
-    /// [`RealFiles::closed`] rises by 1 where the answer is `Ok`, and stays where it is an error.
+    /// [`RealFiles::closed`] rises by 1 where the answer is `Ok`, and stays where it is an error. A sink that
+    /// met a failure is never closed well.
     fn close(&mut self, _path: &[u8], dst: FileSink<'a, R>) -> Result<(), FilesFault>
         // No contents are told, so that the first two of the trait's clauses say nothing.
         ensures ok { OnOk result (Puts None None _path.now None) }
@@ -109,6 +116,7 @@ impl<'a, R: rt::Files<File = File> + Sync> Files for RealFiles<'a, R> {
         ensures later { real_faults self.old ≤ real_faults self.new }
         ensures failed { result ≡ Err FilesFault.Failed → Rose (real_faults self.old) (real_faults self.new) }
 
+        ensures whole { 0 < file_faults dst.entry → IsErr result }
         ensures closed { OnOk result (real_closed self.new ≡ raised (real_closed self.old) 1) }
         ensures unclosed { OnErr result (real_closed self.new ≡ real_closed self.old) }
     {

@@ -1,16 +1,18 @@
 ghost use Rattle.std.specs.Prelude.{◌≡◌, IfOk};
 ghost use Rattle.p9_outside.specs.Adapters.{file_taken};
 
+use crate::real::place::Place;
 use crate::real::temporary::Temporary;
 use crate::{FileSink, StdSource};
 use std::alloc::Global;
-use std::fs::{File, Metadata, OpenFile, OpenOptions};
+use std::fs::{File, Metadata, OpenOptions};
 use std::io::ErrorKind;
+use std::os::unix::fs::MetadataExt;
 use std::path::Path;
 use std::rt::Files;
 use std::{fs, io, str};
 
-/// How many links in a row are followed to a file that isn't there yet.
+/// How many links in a row are followed, as the system follows them.
 const LINKS: u32 = 40;
 
 fn path_text(path: &[u8]) -> io::Result<&str> {
@@ -42,67 +44,103 @@ pub(crate) fn open_sink<'a, R: Files<File = File>>(
     ensures { IfOk result (λ s. file_taken s ≡ 0) }
 {
     let path = path_text(path)?;
-    match fs::metadata(rt, path) {
-        Ok(old) if old.is_file() => replacing(rt, alloc, path, &old),
-        Ok(_) => in_place(rt, path),
-        Err(error) if error.kind() == ErrorKind::NotFound => making(rt, alloc, path),
+    let Some(target) = followed(rt, alloc, path)? else {
+        let file = OpenOptions::new().append(true).open(rt, path)?;
+        return Ok(FileSink::new(rt, file, Place::On));
+    };
+    match fs::metadata(rt, target.as_str()) {
+        Ok(old) if old.is_file() => replacing(rt, alloc, target, &old),
+        Ok(_) => {
+            let file = OpenOptions::new().write(true).open(rt, target.as_str())?;
+            Ok(FileSink::new(rt, file, Place::On))
+        }
+        Err(error) if error.kind() == ErrorKind::NotFound => making(rt, alloc, target),
         Err(error) => Err(error),
     }
 }
 
-fn in_place<'a, R: Files<File = File>>(rt: &'a R, path: &str) -> io::Result<FileSink<'a, R>>
-    ensures { IfOk result (λ s. file_taken s ≡ 0) }
-{
-    let file = OpenOptions::new().write(true).open(rt, path)?;
-    Ok(FileSink::new(rt, file, None))
-}
-
-/// A sink that takes the place of an old file, whose mode it has. A file that can't be written is refused,
-/// though it could be replaced. Links are followed, so that they stay.
+/// A sink that gives an old file new contents. A file that can't be written is refused, though it could be
+/// replaced. One that can't have another beside it is written in place.
 fn replacing<'a, R: Files<File = File>>(
     rt: &'a R,
     alloc: Global,
-    path: &str,
+    target: String,
     old: &Metadata,
 ) -> io::Result<FileSink<'a, R>>
     ensures { IfOk result (λ s. file_taken s ≡ 0) }
 {
-    let _can_be_written = OpenOptions::new().write(true).open(rt, path)?;
-    let target = rt.canonicalize(alloc, path)?.into_string();
-    let (file, temporary) = Temporary::beside(rt, alloc, target, true)?;
-    let sink = FileSink::new(rt, file, Some(temporary));
-    sink.set_permissions(old.permissions())?;
-    Ok(sink)
+    let file = OpenOptions::new().write(true).open(rt, target.as_str())?;
+    match Temporary::instead(rt, alloc, target, old) {
+        Ok((beside, temporary)) => Ok(FileSink::new(rt, beside, Place::Beside(temporary))),
+        Err(error) if is_refusal(error.kind()) => Ok(FileSink::new(rt, file, Place::Over)),
+        Err(error) => Err(error),
+    }
+}
+
+/// No file can be made in this folder: it may not be written, or has no files but its own, as `/proc`, or
+/// the longer name is too long. Want of room on the disk is no such reason.
+fn is_refusal(kind: ErrorKind) -> bool {
+    matches!(
+        kind,
+        ErrorKind::PermissionDenied
+            | ErrorKind::ReadOnlyFilesystem
+            | ErrorKind::NotFound
+            | ErrorKind::InvalidFilename
+            | ErrorKind::Unsupported
+    )
 }
 
 /// A sink that makes a file that isn't there.
 fn making<'a, R: Files<File = File>>(
     rt: &'a R,
     alloc: Global,
-    path: &str,
+    target: String,
 ) -> io::Result<FileSink<'a, R>>
     ensures { IfOk result (λ s. file_taken s ≡ 0) }
 {
-    let target = followed(rt, alloc, path)?;
-    let (file, temporary) = Temporary::beside(rt, alloc, target, false)?;
-    Ok(FileSink::new(rt, file, Some(temporary)))
+    let (file, temporary) = Temporary::fresh(rt, alloc, target)?;
+    Ok(FileSink::new(rt, file, Place::Beside(temporary)))
 }
 
-/// The path that links to a file that isn't there end at. A path that is no link is itself.
-fn followed<R: Files<File = File>>(rt: &R, alloc: Global, path: &str) -> io::Result<String> {
+/// The path that links end at, whether a file is there or not. A path that is no link is itself. None
+/// where one of the links is an open descriptor.
+fn followed<R: Files<File = File>>(
+    rt: &R,
+    alloc: Global,
+    path: &str,
+) -> io::Result<Option<String>> {
     let mut path = format!(in alloc; "{path}")?;
     for _ in 0..LINKS {
+        if is_descriptor(rt, path.as_str()) {
+            return Ok(None);
+        }
         match rt.read_link(alloc, path.as_str()) {
             Ok(to) => path = beside_link(alloc, path.as_str(), to.as_path())?,
             Err(error) => {
                 return match error.kind() {
-                    ErrorKind::InvalidInput | ErrorKind::NotFound => Ok(path),
+                    ErrorKind::InvalidInput | ErrorKind::NotFound => Ok(Some(path)),
                     _ => Err(error),
                 };
             }
         }
     }
-    Err(io::Error::from(ErrorKind::InvalidInput))
+    Err(io::Error::from(ErrorKind::FilesystemLoop))
+}
+
+/// A link of the system's table of processes leads to what is open there, and its text is no path that
+/// could be followed. It stands where `/proc/self` stands. In a table that is mounted elsewhere it is
+/// known by what no other link has: a mode that leaves some access out, and a length that isn't its text's.
+fn is_descriptor<R: Files<File = File>>(rt: &R, path: &str) -> bool {
+    let Ok(link) = fs::symlink_metadata(rt, path) else {
+        return false;
+    };
+    if !link.is_symlink() {
+        return false;
+    }
+    match fs::symlink_metadata(rt, "/proc/self") {
+        Ok(own) if own.is_symlink() && own.dev() == link.dev() => true,
+        _ => link.mode() & 0o777 != 0o777 && (link.len() == 0 || link.len() == 64),
+    }
 }
 
 /// What a link at a path names: from the link's folder on, unless it begins at the root.

@@ -46,6 +46,13 @@ impl<W: Write> StdSink<W> {
         self.taken
     }
 
+    /// How often a write has failed. At the greatest u64 it stands.
+    pub(crate) fn fault_count(&self) -> u64
+        ensures { result ≡ writer_faults self.now }
+    {
+        self.faults
+    }
+
     /// The writer, with what was written.
     pub fn into_inner(self) -> W
         ensures { result ≡ writer_of self }

@@ -4,20 +4,28 @@ ghost use Rattle.p9_outside.specs.Counts.{raised};
 
 use crate::real::closings::Closings;
 use std::alloc::Global;
-use std::fs::{File, OpenFile, OpenOptions};
+use std::fs::{File, Metadata, OpenOptions, Permissions};
 use std::io::ErrorKind;
-use std::os::unix::fs::OpenOptionsExt;
+use std::os::unix::fs::{MetadataExt, OpenOptionsExt, PermissionsExt, fchown};
 use std::path::Path;
 use std::rt::Files;
 use std::{fs, io};
 
-/// How many names are tried for a temporary file.
-const NAMES: u32 = 1000;
-
 /// The longest name that stands in the temporary name: with what is added a name has at most 255 bytes.
 const LONGEST: usize = 200;
 
-/// A file that is to take the place of its target, in the same folder.
+/// What is done with a temporary file when it is whole.
+#[derive(Clone, Copy)]
+enum End {
+    /// It gets the name, which no file has yet.
+    New,
+    /// It gets the name of an old file, and where that is refused it is copied over it.
+    Replaces,
+    /// It is copied over an old file.
+    Copied,
+}
+
+/// A file that has the contents that its target is to have, in the same folder.
 ///
 /// Its name is the target's between `.` and `.p9pipe-N.tmp`, so that it is hidden, and known for what it
 /// is where a run was killed.
@@ -25,29 +33,45 @@ const LONGEST: usize = 200;
 pub(crate) struct Temporary {
     name: String,
     target: String,
-    replaces: bool,
+    end: End,
 }
 
 impl Temporary {
-    /// A new file beside the target. Where it is to replace an old one nobody else can read it yet.
-    pub(crate) fn beside<R: Files<File = File>>(
+    /// A new file beside a target that isn't there.
+    pub(crate) fn fresh<R: Files<File = File>>(
         rt: &R,
         alloc: Global,
         target: String,
-        replaces: bool,
     ) -> io::Result<(File, Temporary)> {
-        let mode = if replaces { 0o600 } else { 0o666 };
-        let (file, name) = made(rt, alloc, target.as_str(), mode)?;
+        let (file, name) = made(rt, alloc, target.as_str(), 0o666)?;
         let temporary = Temporary {
             name,
             target,
-            replaces,
+            end: End::New,
         };
         Ok((file, temporary))
     }
 
-    /// Puts the file in the place of the target. Where there was an old file the new one is on the disk
-    /// first, so that a power cut loses neither. Where the file can't take the place it is removed.
+    /// A new file beside an old one, which it is to replace. An old file of several names stays the one
+    /// that they name, and so does one whose mode the new one can't have: the new one is copied over it.
+    pub(crate) fn instead<R: Files<File = File>>(
+        rt: &R,
+        alloc: Global,
+        target: String,
+        old: &Metadata,
+    ) -> io::Result<(File, Temporary)> {
+        let (file, name) = made(rt, alloc, target.as_str(), 0o600)?;
+        let replaces = old.nlink() <= 1 && take_on(&file, old).is_ok();
+        let temporary = Temporary {
+            name,
+            target,
+            end: if replaces { End::Replaces } else { End::Copied },
+        };
+        Ok((file, temporary))
+    }
+
+    /// Gives the target the contents of the file. Where there was an old file the new contents are on the
+    /// disk first, so that a power cut loses neither. The file's name is gone then, also after an error.
     pub(crate) fn take_place<R: Files<File = File>>(
         self,
         rt: &R,
@@ -57,28 +81,47 @@ impl Temporary {
         ensures taken { OnOk result (closed_count closings.new ≡ raised (closed_count closings.old) 1) }
         ensures removed { OnErr result (closed_count closings.new ≡ closed_count closings.old) }
     {
-        match self.moved(rt, &file, closings) {
-            Ok(()) => Ok(()),
-            Err(error) => {
-                self.remove(rt);
-                Err(error)
-            }
+        if let Err(error) = self.last(&file) {
+            self.remove(rt);
+            return Err(error);
+        }
+        match self.end {
+            End::Copied => self.copied(rt, file, closings),
+            End::Replaces => match closings.rename(rt, self.name.as_str(), self.target.as_str()) {
+                Ok(()) => Ok(()),
+                Err(_) => self.copied(rt, file, closings),
+            },
+            End::New => match closings.rename(rt, self.name.as_str(), self.target.as_str()) {
+                Ok(()) => Ok(()),
+                Err(error) => {
+                    self.remove(rt);
+                    Err(error)
+                }
+            },
         }
     }
 
-    fn moved<R: Files<File = File>>(
-        &self,
+    /// Where there is an old file, waits until the new contents are on the disk.
+    fn last(&self, file: &File) -> io::Result<()> {
+        match self.end {
+            End::New => Ok(()),
+            End::Replaces | End::Copied => file.sync_all(),
+        }
+    }
+
+    /// Copies the file over its target, and removes it.
+    fn copied<R: Files<File = File>>(
+        self,
         rt: &R,
-        file: &File,
+        file: File,
         closings: &mut Closings,
     ) -> io::Result<()>
-        ensures moved { OnOk result (closed_count closings.new ≡ raised (closed_count closings.old) 1) }
+        ensures copied { OnOk result (closed_count closings.new ≡ raised (closed_count closings.old) 1) }
         ensures stays { OnErr result (closed_count closings.new ≡ closed_count closings.old) }
     {
-        if self.replaces {
-            file.sync_all()?;
-        }
-        closings.rename(rt, self.name.as_str(), self.target.as_str())
+        let outcome = closings.copy_over(rt, file, self.target.as_str());
+        self.remove(rt);
+        outcome
     }
 
     /// Removes the file. Where that fails nobody is told.
@@ -87,7 +130,30 @@ impl Temporary {
     }
 }
 
-/// Makes a file under a name that isn't used yet.
+/// Gives a new file, which nobody else can read yet, the owner, the group and the mode of an old one.
+///
+/// Where the owner or the group isn't allowed, the new file runs as nobody but its caller; and where the
+/// group isn't, a group and all others may do what both might.
+fn take_on(file: &File, old: &Metadata) -> io::Result<()> {
+    let new = file.metadata()?;
+    let has_owner = new.uid() == old.uid() || fchown(file, Some(old.uid()), None).is_ok();
+    let has_group = new.gid() == old.gid() || fchown(file, None, Some(old.gid())).is_ok();
+    let mode = old.mode()
+        & if has_owner && has_group {
+            0o7777
+        } else {
+            0o777
+        };
+    let both = (mode >> 3) & mode & 0o7;
+    let mode = if has_group {
+        mode
+    } else {
+        (mode & 0o700) | (both << 3) | both
+    };
+    file.set_permissions(Permissions::from_mode(mode))
+}
+
+/// Makes a file under the first name that isn't used yet. There is no last one.
 fn made<R: Files<File = File>>(
     rt: &R,
     alloc: Global,
@@ -95,7 +161,7 @@ fn made<R: Files<File = File>>(
     mode: u32,
 ) -> io::Result<(File, String)> {
     let (folder, name) = parts(target)?;
-    for n in 0..NAMES {
+    for n in 0..u64::MAX {
         let name = format!(in alloc; ".{name}.p9pipe-{n}.tmp")?;
         let path = folder.join(alloc, name.as_str())?.into_string();
         match create(rt, path.as_str(), mode) {
@@ -109,7 +175,7 @@ fn made<R: Files<File = File>>(
 
 fn create<R: Files<File = File>>(rt: &R, path: &str, mode: u32) -> io::Result<File> {
     let mut how = OpenOptions::new();
-    how.write(true).create_new(true);
+    how.read(true).write(true).create_new(true);
     how.mode(mode);
     how.open(rt, path)
 }
