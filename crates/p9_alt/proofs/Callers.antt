@@ -1,4 +1,4 @@
--- What comes of an entry depends on the caller's place and form alone.
+-- What comes of an entry depends on the caller's position and form alone.
 use Rattle.std.proofs.Common.{◌≡◌, ℕ, Bool, true, false, List, [], ◌∷◌, ◌++◌, refl, sym, ap, ◌∙◌}
 use Rattle.std.specs.Prelude.{Option, Some, None, if◌then◌else◌}
 use Rattle.std.specs.List.{find}
@@ -13,15 +13,15 @@ use Rattle.p9_manual.specs.declared.state.Party.{Party}
 use Rattle.p9_manual.specs.Alt.{parties_without}
 use Rattle.p9_manual.specs.Commit.{Deal, commit, commit_op, commit_entry, commit_send, receive_from, failed, hand_over, pass_on, take_over, element, refilled}
 use Rattle.p9_manual.specs.Told.{sent_bytes}
-use Rattle.p9_manual.specs.Entries.{sends_on, receives_on}
-use Rattle.p9_manual.specs.Ready.{is_unbuffered}
+use Rattle.p9_manual.specs.AltEntries.{sends_on, receives_on}
+use Rattle.p9_manual.specs.ReadyEntries.{is_unbuffered}
 use Rattle.p9_manual.specs.State.{by_id}
 use Rattle.std.specs.Prelude.{slice_get}
 use Rattle.p9_chan.specs.Channels.{is_closed_in}
 use Rattle.p9_alt.specs.declared.commit.Done.{Done}
 use Rattle.p9_alt.specs.Exchange.{wake_with}
 use Rattle.p9_alt.specs.Passing.{IsDealt, IsLeft}
-use Rattle.p9_alt.proofs.Places.{closed-with}
+use Rattle.p9_alt.proofs.Changes.{closed-with}
 
 -- the caller, as far as a deal depends on it
 abbrev bare : Party → Party

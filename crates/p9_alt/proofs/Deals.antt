@@ -14,8 +14,8 @@ use Rattle.p9_manual.specs.declared.state.Party.{Party}
 use Rattle.p9_manual.specs.Alt.{parties_without}
 use Rattle.p9_manual.specs.Commit.{Deal, receive_from, pass_on, take_over, element, with_elements, sender_woken, refilled as refilled_with}
 use Rattle.p9_manual.specs.Told.{sent_answer}
-use Rattle.p9_manual.specs.Entries.{sends_on, receives_on}
-use Rattle.p9_manual.specs.Ready.{unfreed}
+use Rattle.p9_manual.specs.AltEntries.{sends_on, receives_on}
+use Rattle.p9_manual.specs.ReadyEntries.{unfreed}
 use Rattle.p9_manual.specs.State.{by_id}
 use Rattle.p9_chan.specs.Channels.{Channels, IsMade, chan_of, elements_in, cap_in, elsize_in, is_closed_in, has_room_in, is_live_in, left_in, refilled}
 use Rattle.p9_alt.specs.declared.commit.Done.{Done}
@@ -23,7 +23,7 @@ use Rattle.p9_alt.specs.declared.commit.Turn.{Turn}
 use Rattle.p9_alt.specs.declared.offer.Wake.{Wake}
 use Rattle.p9_alt.specs.Exchange.{wake_with}
 use Rattle.p9_alt.specs.Passing.{caller, deal_of, without, passed_wake, passed_rest, taken_answer, sender_gives, IsDealt, IsLeft}
-use Rattle.p9_alt.proofs.Places.{made_chan, chan_of-refilled, made-refilled, refilled_twice}
+use Rattle.p9_alt.proofs.Changes.{made_chan, chan_of-refilled, made-refilled, refilled_twice}
 
 -- what is found passes
 found_by : {A : Type 0} (p : A → Bool) (b : Bool) (x w : A) (o : Option A) → p x ≡ b → (if b then Some x else o) ≡ Some w → (o ≡ Some w → p w ≡ true) → p w ≡ true

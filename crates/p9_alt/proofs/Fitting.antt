@@ -11,12 +11,12 @@ use Rattle.p9_word.specs.declared.alt.AltOp.TheVariants.{Snd, Rcv, Nop}
 use Rattle.p9_word.specs.declared.alt.Slot.{Slot}
 use Rattle.p9_manual.specs.declared.state.Channel.{Channel}
 use Rattle.p9_manual.specs.declared.state.Party.{Party}
-use Rattle.p9_manual.specs.Entries.{is_nop}
-use Rattle.p9_manual.specs.Ready.{fits, fits_entry, fits_channel, goes_with, unfreed, can_go_on, is_ready}
+use Rattle.p9_manual.specs.AltEntries.{is_nop}
+use Rattle.p9_manual.specs.ReadyEntries.{fits, fits_entry, fits_channel, goes_with, unfreed, can_go_on, is_ready}
 use Rattle.p9_manual.specs.State.{by_id}
 use Rattle.p9_chan.specs.Channels.{Channels, IsMade, chan_of, is_live_in}
 use Rattle.p9_alt.specs.Passing.{IsUsable}
-use Rattle.p9_alt.proofs.Places.{by_id_at}
+use Rattle.p9_alt.proofs.Changes.{by_id_at}
 
 -- what stands at an index has what all have
 pub at_index : {A : Type 0} (P : A → Type 0) (xs : List A) (i : ℕ) (x : A) → slice_get xs i ≡ Some x → All P xs → P x

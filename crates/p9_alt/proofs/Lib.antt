@@ -2,6 +2,6 @@ pub mod Callers
 pub mod Deals
 pub mod Fitting
 pub mod Numbers
-pub mod Places
+pub mod Changes
 pub mod Sends
 pub mod Waits

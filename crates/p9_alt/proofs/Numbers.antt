@@ -9,8 +9,8 @@ use Rattle.std.specs.List.{list_any}
 use Rattle.p9_word.specs.declared.alt.AltEntry.{AltEntry}
 use Rattle.p9_word.specs.declared.alt.Slot.{Slot}
 use Rattle.p9_word.specs.declared.alt.Slot.TheVariants.{Null}
-use Rattle.p9_manual.specs.Entries.{first_number, first_slot}
-use Rattle.p9_manual.specs.Ready.{numbers_of}
+use Rattle.p9_manual.specs.AltEntries.{first_number, first_slot}
+use Rattle.p9_manual.specs.ReadyEntries.{numbers_of}
 
 -- what stands at i comes next
 pub next_is : {A : Type 0} → (es : List A) (i : ℕ) (x : A) → i < length es → x ≡ get_or es i x → drop i es ≡ x ∷ drop (i + 1) es

@@ -13,8 +13,8 @@ use Rattle.p9_manual.specs.declared.state.Party.{Party}
 use Rattle.p9_word.specs.declared.alt.Ending.{Ending}
 use Rattle.p9_word.specs.declared.alt.Ending.TheVariants.{End, NoBlk}
 use Rattle.p9_manual.specs.Alt.{parties_without, unready}
-use Rattle.p9_manual.specs.Entries.{is_snd, sends_to, sends_on}
-use Rattle.p9_manual.specs.Ready.{can_go_on, is_ready, numbers_of, ready_entries}
+use Rattle.p9_manual.specs.AltEntries.{is_snd, sends_to, sends_on}
+use Rattle.p9_manual.specs.ReadyEntries.{can_go_on, is_ready, numbers_of, ready_entries}
 use Rattle.p9_manual.specs.Standing.{times}
 use Rattle.p9_manual.specs.State.{by_id}
 use Rattle.p9_chan.specs.Channels.{is_closed_in}

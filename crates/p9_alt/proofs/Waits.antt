@@ -10,7 +10,7 @@ use Rattle.std.specs.List.{find, filter}
 use Rattle.std.specs.declared.alloc.Global.{Global}
 use Rattle.p9_manual.specs.declared.state.Party.{Party}
 use Rattle.p9_manual.specs.Standing.{times}
-use Rattle.p9_manual.specs.Entries.{waits_on}
+use Rattle.p9_manual.specs.AltEntries.{waits_on}
 use Rattle.p9_manual.specs.Close.{all_failed, failed_on}
 use Rattle.p9_alt.specs.declared.offer.Wake.{Wake}
 use Rattle.p9_alt.specs.Exchange.{pair_of}

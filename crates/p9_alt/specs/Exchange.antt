@@ -10,8 +10,8 @@ use Rattle.p9_word.specs.declared.answer.Answer.{Answer}
 use Rattle.p9_manual.specs.declared.state.Channel.{Channel}
 use Rattle.p9_manual.specs.declared.state.Party.{Party}
 use Rattle.p9_manual.specs.Alt.{Verdict, AllClosed, Commits, NoneReady, MustWait, parties_without}
-use Rattle.p9_manual.specs.Entries.{sends_to, sends_on, waits_on, first_slot}
-use Rattle.p9_manual.specs.Ready.{unfreed}
+use Rattle.p9_manual.specs.AltEntries.{sends_to, sends_on, waits_on, first_slot}
+use Rattle.p9_manual.specs.ReadyEntries.{unfreed}
 use Rattle.p9_manual.specs.Standing.{times}
 use Rattle.p9_manual.specs.State.{by_id}
 use Rattle.p9_chan.specs.Channels.{Channels, is_closed_in, elsize_in, closed}
@@ -69,7 +69,7 @@ NoSendOnClosed x = (c : ℕ) → is_closed_in (by_id x.channels.chans c) ≡ tru
 abbrev pub IsIdle : ℕ → Exchange → Type 0
 IsIdle t x = times (λ w. w.tid == t) x.waits ≡ 0
 
--- each thread that waits made its call before this place
+-- each thread that waits made its call before this position
 abbrev pub AreBefore : ℕ → Exchange → Type 0
 AreBefore at x = All (λ w. w.at + 1 ≤ at) x.waits
 

@@ -9,7 +9,7 @@ use Rattle.p9_alt.specs.declared.alts.Alts.TheInside.{Inside}
 abbrev pub shown : Inside → Exchange
 shown s = record { channels = s.chans; waits = s.waits.items; spare = record { waiter = s.waiter; one = s.lists; zeros = s.zeros } }
 
--- one place of memory, if it is there
+-- one, if its memory is there
 abbrev pub one_if : Bool → ℕ
 one_if b = cond b 1 0
 

@@ -11,8 +11,8 @@ use Rattle.p9_manual.specs.declared.state.Element.{Element}
 use Rattle.p9_manual.specs.declared.state.Party.{Party}
 use Rattle.p9_manual.specs.Commit.{Deal, commit, commit_op, element}
 use Rattle.p9_manual.specs.Told.{failed_answer, sent_answer, got_answer, kept_bytes, receiver_answer, sender_answer, sender_bytes}
-use Rattle.p9_manual.specs.Entries.{is_nop}
-use Rattle.p9_manual.specs.Ready.{ready_entries}
+use Rattle.p9_manual.specs.AltEntries.{is_nop}
+use Rattle.p9_manual.specs.ReadyEntries.{ready_entries}
 use Rattle.p9_manual.specs.Alt.{parties_without}
 use Rattle.p9_manual.specs.State.{by_id}
 use Rattle.p9_chan.specs.Channels.{Channels, IsMade}

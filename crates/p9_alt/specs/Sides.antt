@@ -4,7 +4,7 @@ use Rattle.std.specs.List.{list_any}
 use Rattle.p9_word.specs.declared.alt.AltOp.{AltOp}
 use Rattle.p9_word.specs.declared.alt.AltEntry.{AltEntry}
 use Rattle.p9_manual.specs.declared.state.Party.{Party}
-use Rattle.p9_manual.specs.Entries.{is_snd, is_rcv, is_nop, sends_to, receives_from, is_on}
+use Rattle.p9_manual.specs.AltEntries.{is_snd, is_rcv, is_nop, sends_to, receives_from, is_on}
 use Rattle.std.specs.Prelude.{not}
 use Rattle.p9_alt.specs.declared.side.Side.{Side}
 use Rattle.p9_alt.specs.declared.side.Side.TheVariants.{Sends, Receives, Either}

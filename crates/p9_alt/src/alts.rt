@@ -4,8 +4,8 @@ ghost use Rattle.std.specs.Option.{option_map};
 ghost use Rattle.std.specs.Borrow.{sem};
 ghost use Rattle.p9_manual.specs.Alt.{verdict, unready};
 ghost use Rattle.p9_manual.specs.Close.{all_failed};
-ghost use Rattle.p9_manual.specs.Entries.{waits_on};
-ghost use Rattle.p9_manual.specs.Ready.{fits, ready_entries};
+ghost use Rattle.p9_manual.specs.AltEntries.{waits_on};
+ghost use Rattle.p9_manual.specs.ReadyEntries.{fits, ready_entries};
 ghost use Rattle.p9_chan.specs.Channels.{IsMade, chan_of, is_closed_in, emptied, freed};
 ghost use Rattle.p9_alt.specs.Exchange.{others, HasMemory, NoSendOnClosed, IsIdle, AreBefore, offer_of, wake_of, chans_after, waits_after, pair_of, closed_on, shown_alt};
 ghost use Rattle.p9_alt.specs.Passing.{nth_deal, IsDealt, IsLeft};
@@ -150,7 +150,7 @@ impl Alts {
         ready_count(&self.chans, &self.waits, tid, entries.as_slice())
     }
 
-    /// An alt of a thread, whose call has this place in the trail. Of several ready entries the word `w` chooses one, by
+    /// An alt of a thread, whose call has this position in the trail. Of several ready entries the draw `w` chooses one, by
     /// its remainder. The thread that is woken, if one is, is put into `woken`.
     pub fn offer(
         &mut self,

@@ -1,7 +1,7 @@
 ghost use Rattle.std.specs.Prelude.{◌≡◌, ◌≤◌, ◌++◌, length, map, count_by, All};
 ghost use Rattle.p9_manual.specs.Told.{sent_answer, got_answer, failed_answer, receiver_answer, sender_answer, kept_bytes};
 ghost use Rattle.p9_manual.specs.Close.{all_failed, failed_on};
-ghost use Rattle.p9_manual.specs.Entries.{first_slot, waits_on};
+ghost use Rattle.p9_manual.specs.AltEntries.{first_slot, waits_on};
 ghost use Rattle.p9_alt.specs.Exchange.{pair_of};
 ghost use Rattle.p9_alt.specs.Sides.{entry_test};
 
@@ -26,7 +26,7 @@ pub(crate) fn sent_answer(single: bool, i: u32) -> Answer
     }
 }
 
-/// Entry i received a value, which the call at this place sent.
+/// Entry i received a value, which the call at this position sent.
 pub(crate) fn got_answer(single: bool, i: u32, from: u64, msg: Msg) -> Answer
     ensures { result ≡ got_answer single i from msg }
 {

@@ -4,8 +4,8 @@ ghost use Rattle.p9_word.specs.declared.alt.AltOp.TheVariants.{Snd, Rcv};
 ghost use Rattle.p9_word.specs.declared.alt.Slot.TheVariants.{Give};
 ghost use Rattle.p9_manual.specs.Commit.{refilled, sender_woken};
 ghost use Rattle.p9_manual.specs.Told.{failed_answer};
-ghost use Rattle.p9_manual.specs.Entries.{sends_on, receives_on};
-ghost use Rattle.p9_manual.specs.Ready.{can_go_on, is_ready};
+ghost use Rattle.p9_manual.specs.AltEntries.{sends_on, receives_on};
+ghost use Rattle.p9_manual.specs.ReadyEntries.{can_go_on, is_ready};
 ghost use Rattle.p9_chan.specs.Channels.{IsMade, chan_of, elements_in, elsize_in, has_room_in, is_closed_in, is_live_in};
 ghost use Rattle.p9_chan.specs.Channels.{refilled as refilled_on};
 ghost use Rattle.p9_alt.specs.Exchange.{wake_with, zeros_of, zeros_for};
@@ -23,7 +23,7 @@ use p9_chan::{Chans, Element};
 use p9_manual::Party;
 use p9_word::{AltEntry, AltOp, Answer, Msg, Slot};
 
-/// The caller's part in what goes on: the place of its call, the form of its answers, and the number of its entry.
+/// The caller's part in what goes on: the position of its call, the form of its answers, and the number of its entry.
 #[derive(Clone, Copy)]
 pub(crate) struct Turn {
     pub at: u64,

@@ -2,8 +2,8 @@ ghost use Rattle.std.specs.Prelude.{◌≡◌, ◌<◌, ◌≤◌, ◌||◌, Som
 ghost use Rattle.std.specs.List.{list_any, list_all};
 ghost use Rattle.p9_manual.specs.Alt.{is_closed_list};
 ghost use Rattle.p9_manual.specs.Told.{kept_bytes, sent_bytes, sender_bytes};
-ghost use Rattle.p9_manual.specs.Entries.{is_nop, sends_to, sends_on, first_slot};
-ghost use Rattle.p9_manual.specs.Ready.{fits, fits_entry, goes_with, is_too_long};
+ghost use Rattle.p9_manual.specs.AltEntries.{is_nop, sends_to, sends_on, first_slot};
+ghost use Rattle.p9_manual.specs.ReadyEntries.{fits, fits_entry, goes_with, is_too_long};
 ghost use Rattle.p9_alt.specs.Exchange.{zeros_in};
 ghost use Rattle.p9_alt.specs.Sides.{entry_test};
 

@@ -1,8 +1,8 @@
 ghost use Rattle.std.specs.Prelude.{◌≡◌, ◌==◌, ◌<◌, ◌≤◌, All, true, length, slice_index, slice_get, IfSome};
 ghost use Rattle.std.specs.List.{find};
 ghost use Rattle.p9_word.specs.declared.alt.AltOp.TheVariants.{Snd, Rcv};
-ghost use Rattle.p9_manual.specs.Entries.{sends_on};
-ghost use Rattle.p9_manual.specs.Ready.{can_go_on, is_ready, ready_entries};
+ghost use Rattle.p9_manual.specs.AltEntries.{sends_on};
+ghost use Rattle.p9_manual.specs.ReadyEntries.{can_go_on, is_ready, ready_entries};
 ghost use Rattle.p9_manual.specs.Standing.{times};
 ghost use Rattle.p9_chan.specs.Channels.{IsMade, chan_of};
 ghost use Rattle.p9_alt.specs.Exchange.{others, zeros_of, zeros_for};

@@ -1,5 +1,5 @@
 ghost use Rattle.std.specs.Prelude.{◌≡◌, ◌≤◌, length};
-ghost use Rattle.p9_manual.specs.Entries.{first_number};
+ghost use Rattle.p9_manual.specs.AltEntries.{first_number};
 ghost use Rattle.p9_alt.specs.Sides.{op_test, entry_test, party_test};
 
 use p9_manual::Party;

@@ -8,7 +8,7 @@ use std::marker::{Send, Sync};
 use std::process::Abort;
 use std::test::Fail;
 
-/// Alts, and the place of the next call.
+/// Alts, and the position of the next call.
 #[derive(Drop)]
 struct Bench {
     alts: Alts,
@@ -55,7 +55,7 @@ struct Outcome {
 }
 
 impl Bench {
-    /// A call of a thread, with this word for a choice.
+    /// A call of a thread, with this draw for a choice.
     fn call(
         &mut self,
         tid: Tid,
@@ -162,11 +162,11 @@ fn is_answer(answer: &Answer, want: Want) -> bool {
     match (answer, want) {
         (Answer::Sent, Want::Sent) => true,
         (Answer::Closed, Want::Closed) => true,
-        (Answer::Got { from, msg }, Want::Got(place, bytes)) => {
-            *from == place && msg.as_slice() == bytes
+        (Answer::Got { from, msg }, Want::Got(position, bytes)) => {
+            *from == position && msg.as_slice() == bytes
         }
-        (Answer::Index { err, i, from, msg }, Want::Index(n, place, bytes)) => {
-            !*err && *i == n && *from == place && msg.as_slice() == bytes
+        (Answer::Index { err, i, from, msg }, Want::Index(n, position, bytes)) => {
+            !*err && *i == n && *from == position && msg.as_slice() == bytes
         }
         (Answer::Index { err, i, from, msg }, Want::Failed(n)) => {
             *err && *i == n && from.is_none() && msg.as_slice().is_empty()
@@ -235,7 +235,7 @@ fn passes_over(rt: &impl Abort, alloc: Global, b: &mut Bench) -> Result<(), NoMe
     Ok(())
 }
 
-/// The word chooses between two that are ready.
+/// The draw chooses between two that are ready.
 fn chooses(rt: &impl Abort, alloc: Global, b: &mut Bench) -> Result<(), NoMemory> {
     let asks = [Ask::Send(1, b"a"), Ask::Send(2, b"b")];
     let last = b.alt(alloc, 4, &asks, 1)?;
@@ -331,7 +331,7 @@ fn passes_over_entries_out_of_use(rt: HostRuntime) -> Result<(), Fail> {
 }
 
 #[test]
-fn chooses_by_the_word(rt: HostRuntime) -> Result<(), Fail> {
+fn chooses_by_the_draw(rt: HostRuntime) -> Result<(), Fail> {
     let alloc = rt.alloc();
     let mut b = set_up(alloc, 3, 3)?;
     let entries = list(alloc, &[Ask::Send(1, b"a"), Ask::Off(1), Ask::Keep(2)])?;

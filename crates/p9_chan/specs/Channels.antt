@@ -3,7 +3,7 @@
 use Rattle.std.specs.Prelude.{ℕ, ◌≤◌, ◌-◌, Bool, true, false, List, [], ◌∷◌, ◌++◌, Option, Some, None, if◌then◌else◌, length}
 use Rattle.p9_manual.specs.declared.state.Channel.{Channel}
 use Rattle.p9_manual.specs.declared.state.Element.{Element}
-use Rattle.p9_manual.specs.Ready.{has_room}
+use Rattle.p9_manual.specs.ReadyEntries.{has_room}
 use Rattle.p9_manual.specs.Commit.{with_elements}
 use Rattle.p9_manual.specs.Close.{closed_chan, freed_chan}
 use Rattle.p9_manual.specs.Chans.{empty_channel}

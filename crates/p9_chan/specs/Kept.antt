@@ -7,10 +7,10 @@ use Rattle.p9_chan.specs.declared.chans.Chans.TheInside.{Inside}
 
 -- what callers see
 abbrev pub shown : Inside → Channels
-shown s = record { chans = s.slots.items; room = option_map (λ chan. chan.cap) s.next }
+shown s = record { chans = s.stored.items; room = option_map (λ chan. chan.cap) s.next }
 
 -- at most 1,024 channels were made; the next one is new, and there is room for it, unless 1,024 were made
 pub record IsKept (s : Inside) : Type 0 where
-  pub few : length s.slots.items ≤ 1024
+  pub few : length s.stored.items ≤ 1024
   pub next : IfSome s.next (λ chan. chan ≡ empty_channel chan.cap 0)
-  pub room : IfSome s.next (λ chan. length s.slots.items < 1024 → vec_len s.slots + 1 ≤ vec_capacity s.slots)
+  pub room : IfSome s.next (λ chan. length s.stored.items < 1024 → vec_len s.stored + 1 ≤ vec_capacity s.stored)

@@ -1,3 +1,3 @@
 pub mod Channels
-pub mod Slot
+pub mod Stored
 pub mod Kept

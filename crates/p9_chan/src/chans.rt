@@ -1,7 +1,7 @@
 ghost use Rattle.std.specs.Prelude.{◌≡◌, ◌≤◌, ◌+◌, ◌∷◌, ◌++◌, ◌==◌, [], None, Some, not, false, true, length, MatchOption, OnOk, OnErr};
 ghost use Rattle.p9_chan.specs.Channels.{IsMade, chan_of, elements_in, cap_in, elsize_in, is_closed_in, has_room_in, is_live_in, left_in, refilled, closed, freed, emptied, with_new};
 
-use crate::slot::Slot;
+use crate::stored::Stored;
 use p9_manual::Element;
 use p9_word::NoMemory;
 use std::alloc::Global;
@@ -16,9 +16,9 @@ const LIMIT: usize = 1024;
 /// Each `c` that a call takes is a channel that was made, but that of [`Chans::is_live`].
 #[derive(Drop)]
 pub struct Chans {
-    slots: Vec<Slot>,
+    stored: Vec<Stored>,
     /// The next channel, where a reserve took its memory.
-    next: Option<Slot>,
+    next: Option<Stored>,
     alloc: Global,
 }
 
@@ -40,7 +40,7 @@ impl Chans {
         ensures room { result.room ≡ None }
     {
         Chans {
-            slots: Vec::new(alloc),
+            stored: Vec::new(alloc),
             next: None,
             alloc,
         }
@@ -53,9 +53,9 @@ impl Chans {
         ensures room { OnOk result (self.new.room ≡ Some cap) }
         ensures err { OnErr result (self.new ≡ self.old) }
     {
-        let next = Slot::new(self.alloc, cap)?;
-        if self.slots.len() < LIMIT {
-            self.slots.reserve(1)?;
+        let next = Stored::new(self.alloc, cap)?;
+        if self.stored.len() < LIMIT {
+            self.stored.reserve(1)?;
         }
         self.next = Some(next);
         Ok(())
@@ -69,17 +69,17 @@ impl Chans {
         ensures made { MatchOption result ((1024 ≤ length self.old.chans) × (self.new ≡ self.old))
             (λ id. (length self.old.chans + 1 ≤ 1024) × (id ≡ length self.old.chans + 1) × (self.new ≡ with_new cap elsize self.old)) }
     {
-        if LIMIT <= self.slots.len() {
+        if LIMIT <= self.stored.len() {
             return None;
         }
         match self.next.take() {
             None => unreachable!(),
-            Some(mut slot) => {
-                slot.set_elsize(elsize);
-                self.slots.push_reserved(slot);
+            Some(mut stored) => {
+                stored.set_elsize(elsize);
+                self.stored.push_reserved(stored);
             }
         }
-        Some(self.slots.len() as u32)
+        Some(self.stored.len() as u32)
     }
 
     /// Puts an element at the back of channel c, which is neither full nor closed. send in thread(2).
@@ -89,8 +89,8 @@ impl Chans {
         requires open { is_closed_in (chan_of c self.old) ≡ false }
         ensures { self.new ≡ refilled c (elements_in (chan_of c self.old) ++ element ∷ []) self.old }
     {
-        let slot = &mut self.slots[c as usize - 1];
-        slot.put(element);
+        let stored = &mut self.stored[c as usize - 1];
+        stored.put(element);
     }
 
     /// Takes the element at the front of channel c, also of a closed one. `None` exactly where it has none, and then
@@ -102,8 +102,8 @@ impl Chans {
             × (self.new ≡ refilled c (elements_in (chan_of c self.new)) self.old)) }
         ensures within { length (elements_in (chan_of c self.old)) ≤ cap_in (chan_of c self.old) }
     {
-        let slot = &mut self.slots[c as usize - 1];
-        slot.take()
+        let stored = &mut self.stored[c as usize - 1];
+        stored.take()
     }
 
     /// Whether channel c has as many elements as its capacity says. One of capacity 0 always has. thread(2).
@@ -111,7 +111,7 @@ impl Chans {
         requires { IsMade c self.now }
         ensures { result ≡ not (has_room_in (chan_of c self.now)) }
     {
-        self.slots[c as usize - 1].is_full()
+        self.stored[c as usize - 1].is_full()
     }
 
     /// Whether channel c has no element.
@@ -119,7 +119,7 @@ impl Chans {
         requires { IsMade c self.now }
         ensures { result ≡ (length (elements_in (chan_of c self.now)) == 0) }
     {
-        self.slots[c as usize - 1].is_empty()
+        self.stored[c as usize - 1].is_empty()
     }
 
     /// The most bytes of an element of channel c.
@@ -127,7 +127,7 @@ impl Chans {
         requires { IsMade c self.now }
         ensures { result ≡ elsize_in (chan_of c self.now) }
     {
-        self.slots[c as usize - 1].elsize()
+        self.stored[c as usize - 1].elsize()
     }
 
     /// How many elements channel c holds at most. One of capacity 0 holds none and hands each value over. thread(2).
@@ -135,7 +135,7 @@ impl Chans {
         requires { IsMade c self.now }
         ensures { result ≡ cap_in (chan_of c self.now) }
     {
-        self.slots[c as usize - 1].cap()
+        self.stored[c as usize - 1].cap()
     }
 
     /// Closes channel c, and its elements stay. It is true where the channel was open, and false exactly where it was
@@ -145,8 +145,8 @@ impl Chans {
         ensures first { result ≡ not (is_closed_in (chan_of c self.old)) }
         ensures closed { self.new ≡ closed c self.old }
     {
-        let slot = &mut self.slots[c as usize - 1];
-        slot.close()
+        let stored = &mut self.stored[c as usize - 1];
+        stored.close()
     }
 
     /// How many elements are left on channel c, which is closed. `None` exactly where it is open.
@@ -154,7 +154,7 @@ impl Chans {
         requires { IsMade c self.now }
         ensures { result ≡ left_in (chan_of c self.now) }
     {
-        self.slots[c as usize - 1].closing()
+        self.stored[c as usize - 1].closing()
     }
 
     /// Frees channel c: it is live no more. Its elements stay until [`Chans::drop_freed`]. chanfree in thread(2).
@@ -162,8 +162,8 @@ impl Chans {
         requires { IsMade c self.old }
         ensures { self.new ≡ freed c self.old }
     {
-        let slot = &mut self.slots[c as usize - 1];
-        slot.free();
+        let stored = &mut self.stored[c as usize - 1];
+        stored.free();
     }
 
     /// Whether there is such a channel, for any number: it was made and wasn't freed. False also for 0 and for a number
@@ -172,10 +172,10 @@ impl Chans {
         ensures live { result ≡ is_live_in (chan_of c self.now) }
         ensures made { result ≡ true → IsMade c self.now }
     {
-        if c == 0 || self.slots.len() < c as usize {
+        if c == 0 || self.stored.len() < c as usize {
             return false;
         }
-        !self.slots[c as usize - 1].is_freed()
+        !self.stored[c as usize - 1].is_freed()
     }
 
     /// Gives up the elements of channel c, if it is freed. One that is live keeps them.
@@ -183,7 +183,7 @@ impl Chans {
         requires { IsMade c self.old }
         ensures { self.new ≡ emptied c self.old }
     {
-        let slot = &mut self.slots[c as usize - 1];
-        slot.drop_freed();
+        let stored = &mut self.stored[c as usize - 1];
+        stored.drop_freed();
     }
 }

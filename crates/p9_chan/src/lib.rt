@@ -5,7 +5,7 @@
 #![tactic(auto)]
 
 mod chans;
-mod slot;
+mod stored;
 
 pub use chans::Chans;
 pub use p9_manual::Element;

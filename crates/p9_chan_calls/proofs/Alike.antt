@@ -5,8 +5,8 @@ use Rattle.std.specs.List.{list_all}
 use Rattle.p9_word.specs.declared.alt.AltEntry.{AltEntry}
 use Rattle.p9_manual.specs.declared.state.Channel.{Channel}
 use Rattle.p9_manual.specs.declared.state.Element.{Element}
-use Rattle.p9_manual.specs.Ready.{unfreed, fits, fits_entry, fits_channel, goes_with}
-use Rattle.p9_manual.specs.Entries.{is_nop}
+use Rattle.p9_manual.specs.ReadyEntries.{unfreed, fits, fits_entry, fits_channel, goes_with}
+use Rattle.p9_manual.specs.AltEntries.{is_nop}
 use Rattle.p9_manual.specs.Commit.{holding, with_elements}
 use Rattle.p9_manual.specs.Close.{closed_chan, freed_chan}
 use Rattle.p9_manual.specs.State.{by_id, changed}

@@ -9,8 +9,8 @@ use Rattle.p9_word.specs.declared.alt.Slot.{Slot}
 use Rattle.p9_manual.specs.declared.state.Channel.{Channel}
 use Rattle.p9_manual.specs.declared.state.Element.{Element}
 use Rattle.p9_manual.specs.declared.state.Party.{Party}
-use Rattle.p9_manual.specs.Entries.{is_nop, sends_on, receives_on}
-use Rattle.p9_manual.specs.Ready.{can_go_on, is_ready, is_unbuffered, ready_entries, numbers_of, unfreed, fits, fits_entry, fits_channel, goes_with}
+use Rattle.p9_manual.specs.AltEntries.{is_nop, sends_on, receives_on}
+use Rattle.p9_manual.specs.ReadyEntries.{can_go_on, is_ready, is_unbuffered, ready_entries, numbers_of, unfreed, fits, fits_entry, fits_channel, goes_with}
 use Rattle.p9_manual.specs.Commit.{Deal, failed, hand_over, pass_on, take_over, receive_from, commit_op, commit_entry, commit, element, refilled}
 use Rattle.p9_manual.specs.Told.{sent_bytes}
 use Rattle.p9_manual.specs.State.{by_id}

@@ -13,9 +13,9 @@ use Rattle.p9_manual.specs.declared.state.Channel.{Channel}
 use Rattle.p9_manual.specs.declared.state.Party.{Party}
 use Rattle.p9_manual.specs.declared.state.Waiter.{Waiter}
 use Rattle.p9_manual.specs.Offers.{Alternation, alternation_of, party, parties}
-use Rattle.p9_manual.specs.Ready.{fits, ready_entries}
-use Rattle.p9_manual.specs.Words.{generator_after, word_after}
-use Rattle.p9_manual.specs.Alt.{Verdict, AllClosed, Commits, NoneReady, MustWait, verdict, verdict_of, draws_word, with_draw, with_woken, parties_without, decided, alt}
+use Rattle.p9_manual.specs.ReadyEntries.{fits, ready_entries}
+use Rattle.p9_manual.specs.Draws.{generator_after, draw_after}
+use Rattle.p9_manual.specs.Alt.{Verdict, AllClosed, Commits, NoneReady, MustWait, verdict, verdict_of, needs_draw, with_draw, with_woken, parties_without, decided, alt}
 use Rattle.p9_manual.specs.State.{State, Outcome, bad, waits_without}
 use Rattle.p9_manual.specs.Standing.{times}
 use Rattle.p9_alt.specs.declared.offer.Offer.{Offer}
@@ -79,7 +79,7 @@ waits_calls MustWait w a waits e once k = calls_push waits w (in_no_call (altern
 -- the state in which the woken thread and the caller are told, but for that
 abbrev pub dealt_state : ℕ → Request → Verdict → List Channel → State → State
 dealt_state t request v chans s =
-    record s { waits = waits_by v (record { tid = t; request = request; at = s.entries }) s.waits; chans = chans }
+    record s { waits = waits_by v (record { tid = t; request = request; at = s.position }) s.waits; chans = chans }
 
 -- the state once both are told
 abbrev pub told_state : ℕ → Request → Verdict → List Channel → State → State
@@ -108,16 +108,16 @@ decided_by t request v w s e =
 
 -- the verdict of the parts
 abbrev pub own_verdict : ℕ → Exchange → ℕ → ℕ → Alternation → Verdict
-own_verdict at alts t word a = verdict word (party t at a) a.ending alts.channels.chans alts.waits
+own_verdict at alts t draw a = verdict draw (party t at a) a.ending alts.channels.chans alts.waits
 
 -- an offer of thread t of an alt that fits, and what it came to
-pub record IsOffered (at : ℕ) (old new : Exchange) (before after : Lcg) (t word : ℕ) (a : Alternation) (o : Option Wake) (offer : Offer) : Type 0 where
+pub record IsOffered (at : ℕ) (old new : Exchange) (before after : Lcg) (t draw : ℕ) (a : Alternation) (o : Option Wake) (offer : Offer) : Type 0 where
   pub fit : fits old.channels.chans a.entries ≡ true
-  pub draws : (word, after) ≡ cond {A = ℕ × Lcg} (nat_lt 1 (length (ready_entries old.channels.chans old.waits a.entries))) (pcg32 before) (0, before)
-  pub chans : new.channels.chans ≡ chans_after (own_verdict at old t word a) old.channels.chans
-  pub waits : new.waits ≡ waits_after (own_verdict at old t word a) (party t at a) old.waits
-  pub wakes : o ≡ wake_of (own_verdict at old t word a)
-  pub tells : offer ≡ offer_of (own_verdict at old t word a)
+  pub draws : (draw, after) ≡ cond {A = ℕ × Lcg} (nat_lt 1 (length (ready_entries old.channels.chans old.waits a.entries))) (pcg32 before) (0, before)
+  pub chans : new.channels.chans ≡ chans_after (own_verdict at old t draw a) old.channels.chans
+  pub waits : new.waits ≡ waits_after (own_verdict at old t draw a) (party t at a) old.waits
+  pub wakes : o ≡ wake_of (own_verdict at old t draw a)
+  pub tells : offer ≡ offer_of (own_verdict at old t draw a)
 
 fits_if : (b : Bool) (o : Outcome) (s n : State) → b ≡ true → ComesTo o n → ComesTo (cond b o (bad s)) n
 fits_if b o s n e k = rw e k
@@ -130,22 +130,22 @@ pub alt_bad : (setup : Setup) (sched : Schedule) (alts : Exchange) (generator : 
 alt_bad setup sched alts generator s t request a f p =
     serves_now Bad setup sched alts generator s _ (misfits_if (fits s.chans a.entries) _ s (sym (alike_fits alts.channels.chans s.chans a.entries p.channels.chans) ∙ f)) p
 
-module _ (setup : Setup) (first : Schedule) (old new : Exchange) (before after : Lcg) (s : State) (t word : ℕ) (request : Request) (a : Alternation) (o : Option Wake) (offer : Offer) (e : alternation_of request ≡ Some a) (k : IsOffered s.entries old new before after t word a o offer) (p : PartsFor setup first old before s) where
+module _ (setup : Setup) (first : Schedule) (old new : Exchange) (before after : Lcg) (s : State) (t draw : ℕ) (request : Request) (a : Alternation) (o : Option Wake) (offer : Offer) (e : alternation_of request ≡ Some a) (k : IsOffered s.position old new before after t draw a o offer) (p : PartsFor setup first old before s) where
   -- the verdict of the definitions
   abbrev right : Verdict
   right = verdict_of setup t a s
 
   abbrev own : Verdict
-  own = own_verdict s.entries old t word a
+  own = own_verdict s.position old t draw a
 
   -- they agree
   agree : VerdictsAlike old.channels.chans s.chans own right
   agree =
-      let me = party t s.entries a in
+      let me = party t s.position a in
       let chans = old.channels.chans in
-      let drawn = drawn_by setup.start s.draws word before after me a.ending chans old.waits p.drawn k.draws in
-      let same : own ≡ verdict (word_after setup.start s.draws) me a.ending chans (parties s.waits) = drawn.decides ∙ ap (verdict (word_after setup.start s.draws) me a.ending chans) p.channels.waits in
-      rw same (alike_verdict (word_after setup.start s.draws) me a.ending chans s.chans (parties s.waits) p.channels.chans k.fit)
+      let drawn = drawn_by setup.start s.draws draw before after me a.ending chans old.waits p.drawn k.draws in
+      let same : own ≡ verdict (draw_after setup.start s.draws) me a.ending chans (parties s.waits) = drawn.decides ∙ ap (verdict (draw_after setup.start s.draws) me a.ending chans) p.channels.waits in
+      rw same (alike_verdict (draw_after setup.start s.draws) me a.ending chans s.chans (parties s.waits) p.channels.chans k.fit)
 
   -- the state before anybody is told
   abbrev middle : State
@@ -158,16 +158,16 @@ module _ (setup : Setup) (first : Schedule) (old new : Exchange) (before after :
 
   middle_alts : AltsFor new middle
   middle_alts = record {
-    waits = k.waits ∙ (ap (waits_after own (party t s.entries a)) p.channels.waits ∙ waits_parties own t s.entries request a s.waits e);
+    waits = k.waits ∙ (ap (waits_after own (party t s.position a)) p.channels.waits ∙ waits_parties own t s.position request a s.waits e);
     chans = ap (λ (xs : List Channel). shown_chans xs) k.chans ∙ agree.chans;
   }
 
   middle_drawn : after ≡ generator_after setup.start middle.draws
   middle_drawn =
-      let me = party t s.entries a in
+      let me = party t s.position a in
       let chans = old.channels.chans in
-      let drawn = drawn_by setup.start s.draws word before after me a.ending chans old.waits p.drawn k.draws in
-      let here : nat_lt 1 (length (ready_entries chans old.waits a.entries)) ≡ draws_word s.chans (parties s.waits) a.entries = ap (λ (ps : List Party). nat_lt 1 (length (ready_entries chans ps a.entries))) p.channels.waits ∙ draws_alike chans s.chans (parties s.waits) a.entries p.channels.chans k.fit in
+      let drawn = drawn_by setup.start s.draws draw before after me a.ending chans old.waits p.drawn k.draws in
+      let here : nat_lt 1 (length (ready_entries chans old.waits a.entries)) ≡ needs_draw s.chans (parties s.waits) a.entries = ap (λ (ps : List Party). nat_lt 1 (length (ready_entries chans ps a.entries))) p.channels.waits ∙ draws_alike chans s.chans (parties s.waits) a.entries p.channels.chans k.fit in
       drawn.after ∙ ap (λ (b : Bool). generator_after setup.start (cond b (s.draws + 1) s.draws)) here
 
   -- an alt is offered, and then the thread that is woken and the caller are told
@@ -178,8 +178,8 @@ module _ (setup : Setup) (first : Schedule) (old new : Exchange) (before after :
       let start : SchedFor setup.places first middle = record { threads = p.threads.threads; lines = p.threads.lines; procs = p.threads.procs; opened = p.threads.opened; count = p.threads.count } in
       let w = subst (λ (x : Option Wake). Tracks (all_readied (pair_in x)) first second) k.wakes wakes in
       let l = subst (λ (x : Offer). Tracks (told t x) second third) k.tells tells in
-      let stand = subst (λ (ps : List Party). WokenStands (woken_in own) ps) p.channels.waits (woken_stands word (party t s.entries a) a.ending old.channels.chans old.waits) in
-      let calls = waits_calls own (record { tid = t; request = request; at = s.entries }) a s.waits e once stand in
+      let stand = subst (λ (ps : List Party). WokenStands (woken_in own) ps) p.channels.waits (woken_stands draw (party t s.position a) a.ending old.channels.chans old.waits) in
+      let calls = waits_calls own (record { tid = t; request = request; at = s.position }) a s.waits e once stand in
       record {
         reply_is = sym comes_to.reply;
         parts = subst (λ (x : State). PartsFor setup third new after x) (sym comes_to.state) (record {

@@ -10,12 +10,12 @@ use Rattle.p9_word.specs.declared.setup.Setup.{Setup}
 use Rattle.p9_word.specs.declared.trail.Reply.TheVariants.{Now}
 use Rattle.p9_manual.specs.declared.state.Party.{Party}
 use Rattle.p9_manual.specs.Close.{closed_chan, failed_on, all_failed, close_channel, close}
-use Rattle.p9_manual.specs.Entries.{waits_on, first_number, is_on}
+use Rattle.p9_manual.specs.AltEntries.{waits_on, first_number, is_on}
 use Rattle.p9_manual.specs.Offers.{parties}
-use Rattle.p9_manual.specs.Ready.{unfreed}
+use Rattle.p9_manual.specs.ReadyEntries.{unfreed}
 use Rattle.p9_manual.specs.Standing.{times, place_of}
 use Rattle.p9_manual.specs.State.{State, Outcome, by_id, changed, now}
-use Rattle.p9_manual.specs.Words.{generator_after}
+use Rattle.p9_manual.specs.Draws.{generator_after}
 use Rattle.p9_chan.specs.Channels.{is_live_in, is_closed_in}
 use Rattle.p9_alt.specs.declared.offer.Wake.{Wake}
 use Rattle.p9_alt.specs.Exchange.{Exchange, pair_of, closed_on}

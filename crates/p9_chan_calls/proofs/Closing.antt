@@ -6,7 +6,7 @@ use Rattle.p9_word.specs.declared.answer.Answer.{Answer}
 use Rattle.p9_manual.specs.declared.state.Waiter.{Waiter}
 use Rattle.p9_manual.specs.declared.state.Party.{Party}
 use Rattle.p9_manual.specs.Offers.{parties}
-use Rattle.p9_manual.specs.Entries.{waits_on}
+use Rattle.p9_manual.specs.AltEntries.{waits_on}
 use Rattle.p9_manual.specs.Close.{failed_on, all_failed, all_woken}
 use Rattle.p9_manual.specs.State.{State, readied, waits_without}
 use Rattle.p9_manual.specs.Standing.{times}

@@ -53,7 +53,7 @@ module _ (setup : Setup) (at : ℕ) (sched : Schedule) (alts : Exchange) (genera
 
   -- each alt that waits was made before now
   pub before_by : AreBefore at alts
-  before_by = rw (h.parts.channels.waits, ← h.entries) (before_parties s.entries s.waits h.sound.order.before)
+  before_by = rw (h.parts.channels.waits, ← h.position) (before_parties s.position s.waits h.sound.order.before)
 
   -- nobody waits to send on a closed channel
   pub open_by : NoSendOnClosed alts
@@ -83,9 +83,9 @@ module _ (setup : Setup) (at : ℕ) (sched : Schedule) (alts : Exchange) (genera
   woken_by MustWait k = record { wait = λ t. omega arith }
 
   -- who is woken waits
-  pub wake_waits : (word : ℕ) (me : Party) (ending : Ending) (o : Option Wake) → o ≡ wake_of (verdict word me ending alts.channels.chans alts.waits) → AreWaiting sched.threads (pair_in o)
-  wake_waits word me ending o e =
-      rw e (woken_by (verdict word me ending alts.channels.chans alts.waits) (woken_stands word me ending alts.channels.chans alts.waits))
+  pub wake_waits : (draw : ℕ) (me : Party) (ending : Ending) (o : Option Wake) → o ≡ wake_of (verdict draw me ending alts.channels.chans alts.waits) → AreWaiting sched.threads (pair_in o)
+  wake_waits draw me ending o e =
+      rw e (woken_by (verdict draw me ending alts.channels.chans alts.waits) (woken_stands draw me ending alts.channels.chans alts.waits))
 
 runs_on : (threads : List Thread) (t : ℕ) (o : Option Wake) (s : State) → s.threads ≡ threads → AreWaiting threads (pair_in o) → place_of (by_id threads t) ≡ place.Running → place_of (by_id (all_readied (pair_in o) s).threads t) ≡ place.Running
 runs_on threads t None s e a r = rw e r
@@ -108,6 +108,6 @@ spared setup at sched old new generator s spare e h = rw e (record {
     channels = record { waits = h.parts.channels.waits; chans = h.parts.channels.chans };
     drawn = h.parts.drawn;
   };
-  entries = h.entries;
+  position = h.position;
   sound = h.sound;
 })

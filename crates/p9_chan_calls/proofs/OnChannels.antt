@@ -9,7 +9,7 @@ use Rattle.p9_word.specs.declared.trail.Reply.TheVariants.{Now}
 use Rattle.p9_manual.specs.declared.state.Channel.{Channel}
 use Rattle.p9_manual.specs.Chans.{is_no_size, empty_channel, create_channel}
 use Rattle.p9_manual.specs.Close.{freed_chan, free, closing}
-use Rattle.p9_manual.specs.Ready.{unfreed}
+use Rattle.p9_manual.specs.ReadyEntries.{unfreed}
 use Rattle.p9_manual.specs.State.{State, Outcome, by_id, changed, now}
 use Rattle.p9_chan.specs.Channels.{is_live_in, left_in, with_new, emptied, freed}
 use Rattle.p9_alt.specs.Exchange.{Exchange}

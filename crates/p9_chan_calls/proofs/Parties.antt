@@ -17,8 +17,8 @@ use Rattle.p9_manual.specs.declared.state.Element.{Element}
 use Rattle.p9_manual.specs.declared.state.Waiter.{Waiter}
 use Rattle.p9_manual.specs.declared.state.Party.{Party}
 use Rattle.p9_manual.specs.Offers.{Alternation, alternation_of, party, party_with, party_of, parties}
-use Rattle.p9_manual.specs.Entries.{sends_on, receives_on}
-use Rattle.p9_manual.specs.Ready.{is_unbuffered, ready_entries}
+use Rattle.p9_manual.specs.AltEntries.{sends_on, receives_on}
+use Rattle.p9_manual.specs.ReadyEntries.{is_unbuffered, ready_entries}
 use Rattle.p9_manual.specs.Commit.{Deal, hand_over, pass_on, take_over, sender_woken, receive_from, commit_op, commit_entry, element}
 use Rattle.p9_manual.specs.Told.{sent_bytes}
 use Rattle.p9_manual.specs.Alt.{Verdict, AllClosed, Commits, NoneReady, MustWait, is_closed_list, chosen, unready, verdict_on, verdict}
@@ -155,16 +155,16 @@ unready_woken : (ending : Ending) (ps : List Party) → WokenStands (woken_in (u
 unready_woken NoBlk ps = tt
 unready_woken End ps = tt
 
-on_woken : (word : ℕ) (me : Party) (ending : Ending) (chans : List Channel) (ps : List Party) (ns : List ℕ) → WokenStands (woken_in (verdict_on word me ending chans ps ns)) ps
-on_woken word me ending chans ps [] = unready_woken ending ps
-on_woken word me ending chans ps (i ∷ []) = entry_woken me i chans ps (slice_get me.entries i)
-on_woken word me ending chans ps (i ∷ j ∷ more) = entry_woken me (chosen word (i ∷ j ∷ more)) chans ps (slice_get me.entries (chosen word (i ∷ j ∷ more)))
+on_woken : (draw : ℕ) (me : Party) (ending : Ending) (chans : List Channel) (ps : List Party) (ns : List ℕ) → WokenStands (woken_in (verdict_on draw me ending chans ps ns)) ps
+on_woken draw me ending chans ps [] = unready_woken ending ps
+on_woken draw me ending chans ps (i ∷ []) = entry_woken me i chans ps (slice_get me.entries i)
+on_woken draw me ending chans ps (i ∷ j ∷ more) = entry_woken me (chosen draw (i ∷ j ∷ more)) chans ps (slice_get me.entries (chosen draw (i ∷ j ∷ more)))
 
 closed_or_woken : (closed : Bool) (v : Verdict) (ps : List Party) → WokenStands (woken_in v) ps → WokenStands (woken_in (cond closed AllClosed v)) ps
 closed_or_woken true v ps h = tt
 closed_or_woken false v ps h = h
 
 -- who is woken waits in an alt
-pub woken_stands : (word : ℕ) (me : Party) (ending : Ending) (chans : List Channel) (ps : List Party) → WokenStands (woken_in (verdict word me ending chans ps)) ps
-woken_stands word me ending chans ps =
-    closed_or_woken (is_closed_list me.entries) _ ps (on_woken word me ending chans ps (ready_entries chans ps me.entries))
+pub woken_stands : (draw : ℕ) (me : Party) (ending : Ending) (chans : List Channel) (ps : List Party) → WokenStands (woken_in (verdict draw me ending chans ps)) ps
+woken_stands draw me ending chans ps =
+    closed_or_woken (is_closed_list me.entries) _ ps (on_woken draw me ending chans ps (ready_entries chans ps me.entries))

@@ -4,7 +4,7 @@ use Rattle.rand_pcg.specs.Lcg.{Lcg}
 use Rattle.p9_word.specs.declared.setup.Setup.{Setup}
 use Rattle.p9_manual.specs.Sound.{IsSound}
 use Rattle.p9_manual.specs.State.{State}
-use Rattle.p9_manual.specs.Words.{generator_after}
+use Rattle.p9_manual.specs.Draws.{generator_after}
 use Rattle.p9_alt.specs.Exchange.{Exchange}
 use Rattle.p9_alt.specs.For.{AltsFor}
 use Rattle.p9_sched.specs.Schedule.{Schedule}
@@ -19,7 +19,7 @@ pub record PartsFor (setup : Setup) (sched : Schedule) (alts : Exchange) (genera
 -- they stand for a sound state with so many entries
 pub record IsAt (setup : Setup) (at : ℕ) (sched : Schedule) (alts : Exchange) (generator : Lcg) (s : State) : Type 0 where
   pub parts : PartsFor setup sched alts generator s
-  pub entries : s.entries ≡ at
+  pub position : s.position ≡ at
   pub sound : IsSound setup s
 
 -- there is such a state, of some setup

@@ -14,7 +14,7 @@ use Rattle.p9_manual.specs.declared.state.Waiter.{Waiter}
 use Rattle.p9_manual.specs.Alt.{alt}
 use Rattle.p9_manual.specs.Close.{close}
 use Rattle.p9_manual.specs.Offers.{Alternation, alternation_of}
-use Rattle.p9_manual.specs.Ready.{ready_entries, unfreed}
+use Rattle.p9_manual.specs.ReadyEntries.{ready_entries, unfreed}
 use Rattle.p9_manual.specs.State.{State, Outcome, by_id}
 use Rattle.p9_manual.specs.Step.{makes_entry}
 use Rattle.p9_alt.specs.Exchange.{Exchange}
@@ -57,12 +57,12 @@ ServesAlt t a at sched alts g reply new_sched new_alts new_g =
 abbrev pub asked : List AltEntry → Ending → Bool → Alternation
 asked entries ending single = record { entries = entries; ending = ending; single = single }
 
--- channel c is closed, if it can be. No word is drawn
+-- channel c is closed, if it can be. No draw is made
 abbrev pub ServesClose : ℕ → Schedule → Exchange → Reply → Schedule → Exchange → Type 0
 ServesClose c sched alts reply new_sched new_alts =
     (setup : Setup) (at : ℕ) (g : Lcg) (s : State) → IsAt setup at sched alts g s
     → Serves setup s (close c s (unfreed (by_id s.chans c))) reply new_sched new_alts g
 
--- the word by which an alt of these entries chooses, and the generator after it: one is drawn only where there is a choice
-abbrev pub word_for : List Channel → List Party → List AltEntry → Lcg → ℕ × Lcg
-word_for chans waits entries g = if nat_lt 1 (length (ready_entries chans waits entries)) then pcg32 g else (0, g)
+-- the draw by which an alt of these entries chooses, and the generator after it: one is made only where there is a choice
+abbrev pub draw_for : List Channel → List Party → List AltEntry → Lcg → ℕ × Lcg
+draw_for chans waits entries g = if nat_lt 1 (length (ready_entries chans waits entries)) then pcg32 g else (0, g)

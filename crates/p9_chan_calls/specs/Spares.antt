@@ -9,7 +9,7 @@ use Rattle.p9_word.specs.declared.alt.Slot.TheVariants.{Give, Keep}
 use Rattle.p9_word.specs.declared.request.ChanReq.{ChanReq}
 use Rattle.p9_word.specs.declared.request.ChanReq.TheVariants as ask
 use Rattle.p9_manual.specs.Chans.{is_no_size}
-use Rattle.p9_manual.specs.Entries.{waits_on}
+use Rattle.p9_manual.specs.AltEntries.{waits_on}
 use Rattle.p9_manual.specs.Offers.{given, taken}
 use Rattle.p9_alt.specs.Exchange.{Exchange, HasMemory}
 use Rattle.p9_chan_calls.specs.declared.memory.Spare.{Spare}

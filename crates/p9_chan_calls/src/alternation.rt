@@ -1,26 +1,26 @@
 ghost use Rattle.std.specs.Prelude.{◌≡◌, ◌∷◌, [], true};
-ghost use Rattle.p9_manual.specs.Ready.{fits};
+ghost use Rattle.p9_manual.specs.ReadyEntries.{fits};
 ghost use Rattle.p9_manual.specs.State.{by_id};
 ghost use Rattle.p9_alt.specs.Exchange.{HasMemory, IsIdle};
 ghost use Rattle.p9_sched.specs.Messages.{IsBare};
 ghost use Rattle.p9_sched.specs.Turns.{place_of};
 ghost use Rattle.p9_chan_calls.specs.For.{Stands};
-ghost use Rattle.p9_chan_calls.specs.Serves.{ServesAlt, asked, word_for};
+ghost use Rattle.p9_chan_calls.specs.Serves.{ServesAlt, asked, draw_for};
 ghost use Rattle.p9_chan_calls.specs.Spares.{HasOne};
 
-use crate::wakes::{tell, wake_one};
+use crate::wakes::{answer_caller, wake_one};
 use p9_alt::Alts;
 use p9_sched::{Place, Sched};
 use p9_word::{AltEntry, Answer, Ending, Reply, Seq, Tid};
 use rand_core::utils::NextWord;
 use rand_pcg::Pcg32;
 
-/// The word by which an alt of these entries chooses, drawn only where there is a choice. Of one entry alone nothing is
+/// The draw by which an alt of these entries chooses, made only where there is a choice. Of one entry alone nothing is
 /// looked at.
 fn draw(alts: &Alts, generator: &mut Pcg32, t: Tid, entries: &Seq<AltEntry>) -> u32
     requires fits { fits alts.now.channels.chans entries.now ≡ true }
     requires idle { IsIdle t alts.now }
-    ensures { (result, generator.new) ≡ word_for alts.now.channels.chans alts.now.waits entries.now generator.old }
+    ensures { (result, generator.new) ≡ draw_for alts.now.channels.chans alts.now.waits entries.now generator.old }
 {
     if entries.len() < 2 || alts.ready_count(t, entries) < 2 {
         return 0;
@@ -48,11 +48,11 @@ pub(crate) fn alternate(
     if !alts.fits(&entries) {
         return Reply::Now(Answer::Bad);
     }
-    let word = draw(alts, generator, t, &entries);
+    let drawn = draw(alts, generator, t, &entries);
     let mut woken = None;
-    let offer = alts.offer(t, at, entries, ending, single, word, &mut woken);
+    let offer = alts.offer(t, at, entries, ending, single, drawn, &mut woken);
     wake_one(sched, woken);
-    tell(sched, t, offer);
+    answer_caller(sched, t, offer);
     Reply::Waits
 }
 

@@ -1,8 +1,8 @@
 ghost use Rattle.std.specs.Prelude.{◌≡◌, ℕ, Some, false, count_by};
 ghost use Rattle.p9_manual.specs.Chans.{create_channel, is_no_size};
 ghost use Rattle.p9_manual.specs.Close.{free, closing};
-ghost use Rattle.p9_manual.specs.Entries.{waits_on};
-ghost use Rattle.p9_manual.specs.Ready.{unfreed};
+ghost use Rattle.p9_manual.specs.AltEntries.{waits_on};
+ghost use Rattle.p9_manual.specs.ReadyEntries.{unfreed};
 ghost use Rattle.p9_manual.specs.State.{by_id};
 ghost use Rattle.rand_pcg.specs.Lcg.{Lcg};
 ghost use Rattle.p9_sched.specs.Messages.{IsBare};

@@ -1,6 +1,6 @@
 ghost use Rattle.std.specs.Prelude.{◌≡◌, ℕ, count_by, OnOk, IfOk};
 ghost use Rattle.std.specs.Int.{w64, to_le_bytes};
-ghost use Rattle.p9_manual.specs.Entries.{waits_on};
+ghost use Rattle.p9_manual.specs.AltEntries.{waits_on};
 ghost use Rattle.p9_manual.specs.Offers.{given, taken};
 ghost use Rattle.p9_alt.specs.Exchange.{zeros_in};
 ghost use Rattle.p9_chan_calls.specs.Spares.{IsSpare, IsRoomFor, MaySend, MayReceive};

@@ -46,7 +46,7 @@ pub(crate) fn wake_one(sched: &mut Sched, woken: Option<Wake>)
 }
 
 /// Lets the caller go on with what it is told, or wait.
-pub(crate) fn tell(sched: &mut Sched, t: Tid, offer: Offer)
+pub(crate) fn answer_caller(sched: &mut Sched, t: Tid, offer: Offer)
     requires { place_of (by_id sched.old.threads t) ≡ Place.Running }
     ensures { Tracks (told t offer) sched.old sched.new }
 {

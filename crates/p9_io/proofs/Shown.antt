@@ -11,7 +11,7 @@ use Rattle.p9_io.specs.Desks.{Desks, with_ioproc, posted, prepared, with_begun, 
 use Rattle.p9_io.specs.Kept.{ioprocs_of, rooms_of, prepared_of, shown_of}
 use Rattle.p9_io.proofs.Counts.{count_changed, count_fewer}
 
--- an item that was read stands at its place
+-- an item that was read stands at its index
 pub at_read : {A : Type 0} (xs : List A) (i : ℕ) (x d : A) → i < length xs → x ≡ get_or xs i d → slice_get xs i ≡ Some x
 at_read [] i x d lt e = absurd (omega arith)
 at_read {A} (y ∷ xs) zero x d lt e = ap (λ (z : A). Some z) (sym e)
@@ -154,7 +154,7 @@ begins k xs y d h at a b c =
     let found = by_id_at (ioprocs_of xs) k d.ioproc (posted_is_there _ h) (slice_get-map (λ (x : Desk). x.ioproc) xs (k - 1) d at) in
     begins_by k d.ioproc xs y d refl (rw found at h) at found a b c
 
--- g of each item from place i on
+-- g of each item from index i on
 abbrev pub from : {A : Type 0} → (A → A) → ℕ → List A → List A
 from g zero xs = map g xs
 from g (suc i) [] = []

@@ -51,7 +51,7 @@ serves_posted setup s t k call sched desks found short threads ioprocs =
       threads = threads;
       ioprocs = record { ioprocs = ioprocs.ioprocs };
       others = refl;
-      alts = parties_more s.waits (record { tid = t; request = IoRequest (IoRun k call); at = s.entries }) refl;
+      alts = parties_more s.waits (record { tid = t; request = IoRequest (IoRun k call); at = s.position }) refl;
     })
 
 -- a finished call was begun, and its effect fits it

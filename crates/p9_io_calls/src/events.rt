@@ -73,7 +73,7 @@ fn answer_caller(sched: &mut Sched, finished: Finished)
 
 /// Ioproc k tells what its begun call came to; the thread that waits for it is woken with the answer. It needs no memory.
 #[tactic(auto, unfolding(p9_manual::specs::Ioprocs::io_event))]
-pub fn tell(sched: &mut Sched, io: &mut IoBoard, k: u32, effect: &Effect) -> Reply
+pub fn did(sched: &mut Sched, io: &mut IoBoard, k: u32, effect: &Effect) -> Reply
     requires { AreSound sched.old io.old }
     ensures served { (setup : Setup) (s : State) → StandSound sched.old io.old setup s
         → Serves setup s (io_event k s (Some effect.now)) result sched.new io.new }

@@ -24,7 +24,7 @@ fn one_runs(alloc: Global) -> Result<Sched, NoMemory> {
 }
 
 /// Whether thread 1 runs, and is told this.
-fn tells(sched: &mut Sched, io: &mut IoBoard, request: IoReq, wanted: Reply) -> bool {
+fn gives(sched: &mut Sched, io: &mut IoBoard, request: IoReq, wanted: Reply) -> bool {
     if sched.made() == 0 {
         return false;
     }
@@ -50,10 +50,10 @@ fn a_call_is_posted_and_taken(rt: HostRuntime) -> Result<(), Fail> {
     let call = IoCall::IoWrite(Msg::from_slice(alloc, b"more bytes than stand in place")?);
     let taken = Reply::Took(call.copied(alloc)?);
     let made = Reply::Now(Answer::Number(1));
-    assert!(rt; tells(&mut sched, &mut io, IoReq::IoProc { k: 1 }, made));
+    assert!(rt; gives(&mut sched, &mut io, IoReq::IoProc { k: 1 }, made));
     assert!(rt; takes(&sched, &mut io, false, &Reply::Idle, alloc));
     assert!(rt;
-        tells(
+        gives(
             &mut sched,
             &mut io,
             IoReq::IoRun { k: 1, call },
@@ -73,8 +73,8 @@ fn an_idle_ioproc_closes(rt: HostRuntime) -> Result<(), Fail> {
     let mut io = IoBoard::new(alloc, 1)?;
     let close = IoReq::CloseIoProc { k: 1 };
     let made = Reply::Now(Answer::Number(1));
-    assert!(rt; tells(&mut sched, &mut io, IoReq::IoProc { k: 1 }, made));
-    assert!(rt; tells(&mut sched, &mut io, close, Reply::Now(Answer::Done)));
+    assert!(rt; gives(&mut sched, &mut io, IoReq::IoProc { k: 1 }, made));
+    assert!(rt; gives(&mut sched, &mut io, close, Reply::Now(Answer::Done)));
     assert!(rt; takes(&sched, &mut io, false, &Reply::Over, alloc));
     Ok(())
 }

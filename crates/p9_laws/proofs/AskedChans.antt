@@ -8,7 +8,7 @@ use Rattle.p9_word.specs.declared.request.ChanReq.{ChanReq}
 use Rattle.p9_word.specs.declared.request.ChanReq.TheVariants as ask
 use Rattle.p9_manual.specs.declared.state.Channel.{Channel}
 use Rattle.p9_manual.specs.State.{State, Outcome, by_id, changed, now}
-use Rattle.p9_manual.specs.Ready.{unfreed}
+use Rattle.p9_manual.specs.ReadyEntries.{unfreed}
 use Rattle.p9_manual.specs.Close.{freed_chan, close_channel, close, free, closing}
 use Rattle.p9_manual.specs.Chans.{is_no_size, empty_channel, create_channel, on_channel}
 

@@ -26,7 +26,7 @@ use Rattle.p9_manual.specs.State.{State, Outcome, by_id, pick}
 use Rattle.p9_manual.specs.Places.{runs_there, runs_in, lives, is_of}
 use Rattle.p9_manual.specs.Threads.{thread_call}
 use Rattle.p9_manual.specs.Offers.{Alternation, alternation}
-use Rattle.p9_manual.specs.Ready.{fits as fits_chans}
+use Rattle.p9_manual.specs.ReadyEntries.{fits as fits_chans}
 use Rattle.p9_manual.specs.Alt.{Verdict, AllClosed, Commits, NoneReady, MustWait, decided}
 use Rattle.p9_manual.specs.Chans.{chan_call, by_alternation}
 use Rattle.p9_manual.specs.Ioprocs.{io_call, make, post_call, close_ioproc, take_call, did_call, io_event}
@@ -181,9 +181,9 @@ refusals_make reply.Stray e = cc
 refusals_make (reply.Took call) e = cc
 refusals_make reply.Noted e = cc
 
-counted_leaves : (s : State) (o : Outcome) → Leaves s o → is_refusal o.reply ≡ true → (counted s o).state ≡ record s { entries = s.entries + 1 }
+counted_leaves : (s : State) (o : Outcome) → Leaves s o → is_refusal o.reply ≡ true → (counted s o).state ≡ record s { position = s.position + 1 }
 counted_leaves s o leaves e = rw (refusals_make o.reply e, leaves e) refl
 
-pub refusals_leave : (S : Setup) (s : State) (seat : Seat) (event : Event) → is_refusal (step S seat event s).reply ≡ true → (step S seat event s).state ≡ record s { entries = s.entries + 1 }
+pub refusals_leave : (S : Setup) (s : State) (seat : Seat) (event : Event) → is_refusal (step S seat event s).reply ≡ true → (step S seat event s).state ≡ record s { position = s.position + 1 }
 unfolding step
 refusals_leave S s seat event e = counted_leaves s (outcome S seat event s) (outcome_leaves S seat event s) e

@@ -18,12 +18,12 @@ use Rattle.p9_manual.specs.declared.state.Element.{Element}
 use Rattle.p9_manual.specs.declared.state.Party.{Party}
 use Rattle.p9_manual.specs.State.{State, Outcome, by_id, changed, now, done}
 use Rattle.p9_manual.specs.Offers.{Alternation, alternation, party, parties}
-use Rattle.p9_manual.specs.Entries.{sends_on, receives_on, waits_on}
-use Rattle.p9_manual.specs.Ready.{fits, ready_entries, is_unbuffered}
+use Rattle.p9_manual.specs.AltEntries.{sends_on, receives_on, waits_on}
+use Rattle.p9_manual.specs.ReadyEntries.{fits, ready_entries, is_unbuffered}
 use Rattle.p9_manual.specs.Commit.{Deal, commit, commit_entry, commit_op, hand_over, pass_on, take_over, receive_from, sender_woken, element}
 use Rattle.p9_manual.specs.Told.{sent_bytes}
 use Rattle.p9_manual.specs.Alt.{Verdict, AllClosed, Commits, NoneReady, MustWait, is_closed_list, unready, chosen, verdict_on, verdict, with_woken, with_draw, dealt, decided, verdict_of}
-use Rattle.p9_manual.specs.Words.{word_after}
+use Rattle.p9_manual.specs.Draws.{draw_after}
 use Rattle.p9_manual.specs.Close.{close_channel, all_failed, failed_on, closed_chan}
 use Rattle.p9_manual.specs.Chans.{chan_call, by_alternation}
 use Rattle.p9_laws.proofs.Tallies.{tally, tally-filtered_fewer}
@@ -99,18 +99,18 @@ unready_among : (waits : List Party) (ending : Ending) → WakesAmong waits (unr
 unready_among waits NoBlk = tt
 unready_among waits End = tt
 
-ready_among : (word : ℕ) (me : Party) (ending : Ending) (chans : List Channel) (waits : List Party) (ready : List ℕ) → WakesAmong waits (verdict_on word me ending chans waits ready)
-ready_among word me ending chans waits [] = unready_among waits ending
-ready_among word me ending chans waits (i ∷ []) = commit_among me i chans waits
-ready_among word me ending chans waits (i ∷ j ∷ more) = commit_among me (chosen word (i ∷ j ∷ more)) chans waits
+ready_among : (draw : ℕ) (me : Party) (ending : Ending) (chans : List Channel) (waits : List Party) (ready : List ℕ) → WakesAmong waits (verdict_on draw me ending chans waits ready)
+ready_among draw me ending chans waits [] = unready_among waits ending
+ready_among draw me ending chans waits (i ∷ []) = commit_among me i chans waits
+ready_among draw me ending chans waits (i ∷ j ∷ more) = commit_among me (chosen draw (i ∷ j ∷ more)) chans waits
 
 if_wakes : (waits : List Party) (b : Bool) (v w : Verdict) → WakesAmong waits v → WakesAmong waits w → WakesAmong waits (cond b v w)
 if_wakes waits true v w f g = f
 if_wakes waits false v w f g = g
 
-verdict_among : (word : ℕ) (me : Party) (ending : Ending) (chans : List Channel) (waits : List Party) → WakesAmong waits (verdict word me ending chans waits)
-verdict_among word me ending chans waits =
-    if_wakes waits (is_closed_list me.entries) _ _ tt (ready_among word me ending chans waits (ready_entries chans waits me.entries))
+verdict_among : (draw : ℕ) (me : Party) (ending : Ending) (chans : List Channel) (waits : List Party) → WakesAmong waits (verdict draw me ending chans waits)
+verdict_among draw me ending chans waits =
+    if_wakes waits (is_closed_list me.entries) _ _ tt (ready_among draw me ending chans waits (ready_entries chans waits me.entries))
 
 -- one thread to be woken waits
 one_waits : (w : ℕ × Answer) (s : State) → 1 ≤ tally (is_party w.0) (parties s.waits) → AllWait (w ∷ []) s
@@ -166,7 +166,7 @@ decided_served t r s (Commits d) upright runs among = dealt_served t d s upright
 decided_served t r s NoneReady upright runs among = done_served s t _ upright runs
 decided_served t r s MustWait upright runs among = just_waiting s t (ChanRequest r) upright runs refl
 
--- a word that is drawn moves nothing
+-- a draw moves nothing
 drawn_served : (t : ℕ) (entries : List AltEntry) (s : State) (o : Outcome) → IsServed t (with_draw entries s) o → IsServed t s o
 drawn_served t entries s o is =
     record {
@@ -182,7 +182,7 @@ drawn_served t entries s o is =
 
 alt_served : (setup : Setup) (t : ℕ) (r : ChanReq) (a : Alternation) (s : State) → IsUpright s → RunsIn s t → IsServed t s (decided t (ChanRequest r) (with_draw a.entries s) (verdict_of setup t a s))
 alt_served setup t r a s upright runs =
-    drawn_served t a.entries s _ (decided_served t r (with_draw a.entries s) (verdict_of setup t a s) upright runs (verdict_among (word_after setup.start s.draws) (party t s.entries a) a.ending s.chans (parties s.waits)))
+    drawn_served t a.entries s _ (decided_served t r (with_draw a.entries s) (verdict_of setup t a s) upright runs (verdict_among (draw_after setup.start s.draws) (party t s.position a) a.ending s.chans (parties s.waits)))
 
 failed_tally : (c u : ℕ) → (ws : List Party) → tally (λ w. eqb w.0 u) (map (failed_on c) ws) ≡ tally (is_party u) ws
 failed_tally c u [] = refl

@@ -169,7 +169,7 @@ readied_upright s t a upright runs =
 
 -- the wait of t with a request
 abbrev pub wait_of : State → ℕ → Request → Waiter
-wait_of s t r = record { tid = t; request = r; at = s.entries }
+wait_of s t r = record { tid = t; request = r; at = s.position }
 
 pub waiting_upright : (s : State) (t : ℕ) (r : Request) (ios : List Ioproc) → IsUpright s → RunsIn s t → ((u : ℕ) → tally (is_io_wait_of u) (s.waits ++ wait_of s t r ∷ []) ≡ tally (is_call_of u) ios) → tally is_long ios ≡ 0 → IsUpright (waiting t r (record s { ioprocs = ios })).state
 waiting_upright s t r ios upright runs calls short =

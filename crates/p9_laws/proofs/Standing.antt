@@ -69,7 +69,7 @@ slice_get-changed_other f (x ∷ xs) zero (suc j) ne = refl
 slice_get-changed_other f (x ∷ xs) (suc i) zero ne = refl
 slice_get-changed_other f (x ∷ xs) (suc i) (suc j) ne = slice_get-changed_other f xs i j (λ e. ne (ap suc e))
 
--- the item with this id, from its place in the list
+-- the item with this id, from its index in the list
 pub get_by_id : {A : Type 0} (xs : List A) (t : ℕ) (x : A) → by_id xs t ≡ Some x → slice_get xs (t - 1) ≡ Some x
 get_by_id xs t x e = get_step (ltb 0 t) (slice_get xs (t - 1)) x e
   where

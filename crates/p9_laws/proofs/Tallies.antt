@@ -1,4 +1,4 @@
--- How often a test passes in a list, where the list is picked from, added to or changed at a place.
+-- How often a test passes in a list, where the list is picked from, added to or changed at an index.
 use Rattle.std.proofs.Common.{◌≡◌, ℕ, zero, suc, ◌+◌, ◌≤◌, Bool, true, false, not, cond, ◌||◌, List, [], ◌∷◌, ◌++◌, map, Option, Some, None, refl, ap, arith}
 use Rattle.std.specs.Prelude.{slice_get}
 use Rattle.std.specs.List.{filter, list_any}
@@ -92,7 +92,7 @@ at_most_one : (b : Bool) → cond b 1 0 ≤ 1
 at_most_one true = omega arith
 at_most_one false = omega arith
 
--- an item put at a place
+-- an item put at an index
 pub tally-put : {A : Type 0} (q : A → Bool) (y : A) → (xs : List A) (i : ℕ) → tally q (changed (λ _. y) xs i) ≤ tally q xs + cond (q y) 1 0
 tally-put q y [] i = omega arith
 tally-put q y (x ∷ xs) zero = omega arith

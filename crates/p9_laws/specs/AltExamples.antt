@@ -14,10 +14,10 @@ use Rattle.p9_word.specs.declared.trail.Entry.{Entry}
 use Rattle.p9_word.specs.declared.setup.Setup.{Setup}
 use Rattle.p9_word.specs.declared.setup.ChanSetup.{ChanSetup}
 use Rattle.p9_word.specs.Setup.{IsValid}
-use Rattle.p9_laws.specs.Entries.{turns, calls}
+use Rattle.p9_laws.specs.Shorthand.{turns, calls}
 use Rattle.p9_laws.specs.ThreadExamples.{first_thread}
 use Rattle.p9_laws.specs.ChannelExamples.{one_proc}
-use Rattle.p9_manual.specs.Words.{word_after}
+use Rattle.p9_manual.specs.Draws.{draw_after}
 use Rattle.p9_manual.specs.History.{state_after}
 
 -- the letters p, q and x, as bytes
@@ -50,7 +50,7 @@ ready_setup = one_proc (first_thread ∷ []) (of_capacity 1 ∷ of_capacity 0 �
 abbrev pub any_of_three : Request
 any_of_three = Chan (Alt NoBlk (rcv 1 ∷ rcv 2 ∷ rcv 3 ∷ []))
 
--- only the first channel has an element, which the call at place 1 sent: alt receives it, and then nothing is ready
+-- only the first channel has an element, which the call at position 1 sent: alt receives it, and then nothing is ready
 abbrev pub one_ready : List Entry
 one_ready =
     turns (Begin 1 1 0)
@@ -62,7 +62,7 @@ one_ready =
     ∷ turns (Turn 1 NoBlock)
     ∷ []
 
--- what that history shows: its setup is valid, and where there was no choice no word was drawn
+-- what that history shows: its setup is valid, and where there was no choice no draw was made
 pub record ShowsNoChoice : Type 0 where
   pub valid : IsValid ready_setup
   pub draws : (state_after ready_setup one_ready).draws ≡ 0
@@ -71,8 +71,8 @@ pub record ShowsNoChoice : Type 0 where
 abbrev pub choice_setup : Setup
 choice_setup = one_proc (first_thread ∷ first_thread ∷ []) (of_capacity 0 ∷ [])
 
--- both threads would send or receive. The second one finds both its entries ready, and the first word of the run chooses
--- the one that receives: it has p, which the call at place 1 sent. The first thread, whose entry sent it, runs first
+-- both threads would send or receive. The second one finds both its entries ready, and the first draw of the run chooses
+-- the one that receives: it has p, which the call at position 1 sent. The first thread, whose entry sent it, runs first
 abbrev pub two_ready : List Entry
 two_ready =
     turns (Begin 1 1 0)
@@ -84,11 +84,11 @@ two_ready =
     ∷ turns (Turn 2 (Index false 1 (Some 1) letter_p))
     ∷ []
 
--- what that history shows: its setup is valid; the first word is odd; and right after the second thread's call nobody
--- waits, both threads are ready in this order, and one word was drawn
+-- what that history shows: its setup is valid; the first draw is odd; and right after the second thread's call nobody
+-- waits, both threads are ready in this order, and one draw was made
 pub record ShowsTheChoice : Type 0 where
   pub valid : IsValid choice_setup
-  pub word : word_after 42 0 ≡ 0xa15c02b7
+  pub draw : draw_after 42 0 ≡ 0xa15c02b7
   pub waits : (state_after choice_setup (take 4 two_ready)).waits ≡ []
   pub line : (state_after choice_setup (take 4 two_ready)).line ≡ 1 ∷ 2 ∷ []
   pub draws : (state_after choice_setup (take 4 two_ready)).draws ≡ 1

@@ -11,7 +11,7 @@ use Rattle.p9_word.specs.declared.setup.Setup.{Setup}
 use Rattle.p9_word.specs.declared.setup.ThreadSetup.{ThreadSetup}
 use Rattle.p9_word.specs.declared.setup.ChanSetup.{ChanSetup}
 use Rattle.p9_word.specs.Setup.{IsValid}
-use Rattle.p9_laws.specs.Entries.{turns, calls}
+use Rattle.p9_laws.specs.Shorthand.{turns, calls}
 use Rattle.p9_laws.specs.ThreadExamples.{first_thread}
 use Rattle.p9_laws.specs.RunReplies.{reply_at}
 
@@ -53,7 +53,7 @@ text_d = 100 ∷ []
 
 -- the thread makes a channel for one element of at most two bytes: abc is too long, ab is sent, and for c there is no room.
 -- Once it closes the channel one element is left there, nothing more is sent, and ab is received, which the call at
--- place 3 sent. Then it frees the channel
+-- position 3 sent. Then it frees the channel
 abbrev pub by_a_channel : List Entry
 by_a_channel =
     turns (Begin 1 1 0)

@@ -9,7 +9,7 @@ use Rattle.p9_word.specs.declared.trail.Reply.TheVariants.{Now, Waits, Ended, Be
 use Rattle.p9_word.specs.declared.trail.Entry.{Entry}
 use Rattle.p9_word.specs.declared.setup.Setup.{Setup}
 use Rattle.p9_word.specs.Setup.{IsValid}
-use Rattle.p9_laws.specs.Entries.{turns, calls}
+use Rattle.p9_laws.specs.Shorthand.{turns, calls}
 use Rattle.p9_laws.specs.ThreadExamples.{first_thread}
 use Rattle.p9_laws.specs.ChannelExamples.{one_proc}
 use Rattle.p9_manual.specs.History.{state_after}

@@ -16,7 +16,7 @@ use Rattle.p9_word.specs.Setup.{IsValid}
 use Rattle.p9_manual.specs.Files.{TreatsAsFile, at_first, given, written}
 use Rattle.p9_manual.specs.FilesInHistory.{services_at, IsDone}
 use Rattle.p9_laws.specs.RunReplies.{reply_at}
-use Rattle.p9_laws.specs.Entries.{turns, calls, at_io}
+use Rattle.p9_laws.specs.Shorthand.{turns, calls, at_io}
 use Rattle.p9_laws.specs.CopySetup.{hi, copy_setup}
 
 -- both threads begin, and make and open their ioprocs; the writer waits for a value

@@ -5,7 +5,7 @@ pub mod Communications
 pub mod CopyExample
 pub mod CopySetup
 pub mod Ending
-pub mod Entries
+pub mod Shorthand
 pub mod IoReplies
 pub mod LastCall
 pub mod Moves

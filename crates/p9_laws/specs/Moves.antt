@@ -23,18 +23,18 @@ moves setup history = moves_from setup (begin_state setup) history
 abbrev pub carried : Setup → List Entry → ℕ → List Move
 carried setup history c = filter (λ m. m.chan == c) (moves setup history)
 
--- how often the value that a call at this place sent has moved
+-- how often the value that a call at this position sent has moved
 abbrev pub times_moved : ℕ → List Move → ℕ
-times_moved place ms = times (λ m. m.from == place) ms
+times_moved position ms = times (λ m. m.from == position) ms
 
 -- the elements of all channels, of those that were freed too
 abbrev pub elements_of : List Channel → List Element
 elements_of chans = flat_map (λ chan. chan.elements) chans
 
 -- on each channel values move in the order of the calls that sent them
-abbrev pub PlacesRise : Setup → List Entry → Type 0
-PlacesRise setup history = (c : ℕ) → IsRising (map (λ m. m.from) (carried setup history c))
+abbrev pub PositionsRise : Setup → List Entry → Type 0
+PositionsRise setup history = (c : ℕ) → IsRising (map (λ m. m.from) (carried setup history c))
 
 -- no call's value moves twice, on one channel or on two
 abbrev pub MovesOnce : Setup → List Entry → Type 0
-MovesOnce setup history = (place : ℕ) → times_moved place (moves setup history) ≤ 1
+MovesOnce setup history = (position : ℕ) → times_moved position (moves setup history) ≤ 1

@@ -8,7 +8,7 @@ use Rattle.p9_word.specs.declared.setup.Setup.{Setup}
 use Rattle.p9_word.specs.declared.trail.Reply.{Reply}
 use Rattle.p9_word.specs.declared.trail.Reply.TheVariants.{Waits, Turn}
 use Rattle.p9_word.specs.declared.trail.Entry.{Entry}
-use Rattle.p9_manual.specs.Entries.{receives_from}
+use Rattle.p9_manual.specs.AltEntries.{receives_from}
 use Rattle.p9_manual.specs.Told.{kept_bytes}
 use Rattle.p9_manual.specs.Standing.{times}
 use Rattle.p9_manual.specs.State.{Move}
@@ -16,7 +16,7 @@ use Rattle.p9_laws.specs.LastCall.{call_before}
 use Rattle.p9_laws.specs.Moves.{moves}
 use Rattle.p9_laws.specs.Senders.{entries_asked}
 
--- a value that a thread is told to have received: who, by the entry of which number, from which place, and the bytes that
+-- a value that a thread is told to have received: who, by the entry of which number, from which position, and the bytes that
 -- it is told
 pub record Receipt : Type 0 where
   pub to : ℕ
@@ -55,12 +55,12 @@ pub record IsOf (found : Option Entry) (r : Receipt) (m : Move) : Type 0 where
 
 -- the receipt is of one of these moves, by the last call
 pub record IsReceived (history : List Entry) (ms : List Move) (last : Option ℕ) (r : Receipt) : Type 0 where
-  pub place : ℕ
+  pub position : ℕ
   pub index : ℕ
   pub move : Move
-  pub is_last : last ≡ Some place
+  pub is_last : last ≡ Some position
   pub is_move : slice_get ms index ≡ Some move
-  pub is_of : IsOf (slice_get history place) r move
+  pub is_of : IsOf (slice_get history position) r move
 
 -- where a thread is told that it received a value, it made a call before; and the receipt is of a value that moved to it by
 -- that call
@@ -71,4 +71,4 @@ ReceiptsMoved setup history =
 
 -- and there are no two receipts of one value
 abbrev pub ReceiptsOnce : Setup → List Entry → Type 0
-ReceiptsOnce setup history = (place : ℕ) → times (λ r. r.from == place) (receipts history) ≤ 1
+ReceiptsOnce setup history = (position : ℕ) → times (λ r. r.from == position) (receipts history) ≤ 1

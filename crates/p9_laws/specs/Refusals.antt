@@ -19,4 +19,4 @@ is_refusal reply = false
 abbrev pub RefusalsLeave : Setup → State → Type 0
 RefusalsLeave setup s =
     (seat : Seat) (event : Event) → is_refusal (step setup seat event s).reply ≡ true
-    → (step setup seat event s).state ≡ record s { entries = s.entries + 1 }
+    → (step setup seat event s).state ≡ record s { position = s.position + 1 }

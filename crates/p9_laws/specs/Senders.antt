@@ -8,7 +8,7 @@ use Rattle.p9_word.specs.declared.trail.Reply.TheVariants.{Waits}
 use Rattle.p9_word.specs.declared.trail.Entry.{Entry}
 use Rattle.p9_manual.specs.declared.state.Channel.{Channel}
 use Rattle.p9_manual.specs.Offers.{Alternation, alternation_of}
-use Rattle.p9_manual.specs.Entries.{sends_to}
+use Rattle.p9_manual.specs.AltEntries.{sends_to}
 use Rattle.p9_manual.specs.Told.{sent_bytes}
 use Rattle.p9_manual.specs.State.{Move, by_id}
 use Rattle.p9_manual.specs.History.{state_after}
@@ -49,11 +49,11 @@ pub record IsSendBy (number c elsize : ℕ) (bytes : List ℕ) (found : Option E
 abbrev pub IsSendOf : ℕ → ℕ → List ℕ → Option Entry → Type 0
 IsSendOf c elsize bytes found = (number : ℕ) × IsSendBy number c elsize bytes found
 
--- this value was sent, on its channel and with its bytes, by the call at its place
+-- this value was sent, on its channel and with its bytes, by the call at its position
 abbrev pub IsSentThere : Setup → List Entry → Move → Type 0
 IsSentThere setup history m =
     IsSendOf m.chan (elsize_of (by_id (state_after setup history).chans m.chan)) m.bytes (slice_get history m.from)
 
--- each value that moves was sent on that channel by the call at its place
+-- each value that moves was sent on that channel by the call at its position
 abbrev pub MovesSent : Setup → List Entry → Type 0
 MovesSent setup history = All (IsSentThere setup history) (moves setup history)

@@ -19,25 +19,25 @@ sent_number Sent = Some 0
 sent_number (Index false i None m) = Some i
 sent_number a = None
 
--- the value that the call at this place sent on channel c has left that channel, with these bytes
+-- the value that the call at this position sent on channel c has left that channel, with these bytes
 abbrev pub HasLeft : ℕ → ℕ → List ℕ → List Move → Type 0
-HasLeft c place bytes ms = (t i : ℕ) × (slice_get ms i ≡ Some (record { chan = c; from = place; to = t; bytes = bytes }))
+HasLeft c position bytes ms = (t i : ℕ) × (slice_get ms i ≡ Some (record { chan = c; from = position; to = t; bytes = bytes }))
 
 -- it is among that channel's elements, with these bytes
 abbrev pub IsAmong : ℕ → ℕ → List ℕ → List Channel → Type 0
-IsAmong c place bytes chans =
-    (chan : Channel) × (i : ℕ) × (by_id chans c ≡ Some chan) × (slice_get chan.elements i ≡ Some (record { from = place; msg = bytes }))
+IsAmong c position bytes chans =
+    (chan : Channel) × (i : ℕ) × (by_id chans c ≡ Some chan) × (slice_get chan.elements i ≡ Some (record { from = position; msg = bytes }))
 
 -- after a history with these moves and channels: entry n of the last call sends bytes on channel c, and this value has left
 -- that channel or is among its elements; whatever that call sent has moved or is an element once, and not both
 pub record IsKept (history : List Entry) (ms : List Move) (chans : List Channel) (n : ℕ) (last : Option ℕ) : Type 0 where
-  pub place : ℕ
+  pub position : ℕ
   pub chan : ℕ
   pub bytes : List ℕ
-  pub is_last : last ≡ Some place
-  pub sent : IsSendBy n chan (elsize_of (by_id chans chan)) bytes (slice_get history place)
-  pub is_there : HasLeft chan place bytes ms ⊎ IsAmong chan place bytes chans
-  pub once : times_moved place ms + times (λ e. e.from == place) (elements_of chans) ≡ 1
+  pub is_last : last ≡ Some position
+  pub sent : IsSendBy n chan (elsize_of (by_id chans chan)) bytes (slice_get history position)
+  pub is_there : HasLeft chan position bytes ms ⊎ IsAmong chan position bytes chans
+  pub once : times_moved position ms + times (λ e. e.from == position) (elements_of chans) ≡ 1
 
 -- where a thread is told that its value was sent, it made a call before; and after the whole history the value of the entry
 -- that is told is kept

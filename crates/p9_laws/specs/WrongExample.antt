@@ -7,7 +7,7 @@ use Rattle.p9_word.specs.declared.setup.Setup.{Setup}
 use Rattle.p9_manual.specs.History.{IsLegal, state_after}
 use Rattle.p9_manual.specs.Step.{step, makes_entry}
 use Rattle.p9_manual.specs.State.{State}
-use Rattle.p9_laws.specs.Entries.{turns}
+use Rattle.p9_laws.specs.Shorthand.{turns}
 use Rattle.p9_laws.specs.CopyExample.{opened_both, sent_hi}
 
 -- the sender runs before the receiver that it found waiting

@@ -50,18 +50,18 @@ pub fn taking_the_ready_entry_is_legal()
     ensures { IsLegal ready_setup one_ready }
 {}
 
-/// It draws no word, since there is no choice.
+/// It makes no draw, since there is no choice.
 pub fn taking_the_ready_entry_draws_nothing()
     ensures { ShowsNoChoice }
 {}
 
-/// Two threads that each send or receive on a channel meet, and a word says which of them sends.
+/// Two threads that each send or receive on a channel meet, and a draw says which of them sends.
 pub fn choosing_an_entry_is_legal()
     ensures { IsLegal choice_setup two_ready }
 {}
 
-/// One word is drawn, nobody waits any more, and the thread that waited runs first.
-pub fn choosing_an_entry_draws_a_word()
+/// One draw is made, nobody waits any more, and the thread that waited runs first.
+pub fn choosing_an_entry_makes_a_draw()
     ensures { ShowsTheChoice }
 {}
 

@@ -16,7 +16,7 @@ use Rattle.p9_manual.specs.Places.{runs_in}
 use Rattle.p9_manual.specs.Standing.{StandOnce, times, place_of, place_in, times_in_line, times_in_waits}
 use Rattle.p9_manual.specs.State.{State, Proc, by_id, changed}
 use Rattle.p9_manual.specs.Threads.{with_changed, with_name}
-use Rattle.p9_manual.specs.Words.{generator_after}
+use Rattle.p9_manual.specs.Draws.{generator_after}
 use Rattle.p9_chan.specs.Channels.{emptied_chan}
 use Rattle.p9_alt.specs.Exchange.{Exchange}
 use Rattle.p9_io.specs.Calls.{begun_count}
@@ -157,7 +157,7 @@ few_first setup items i s same lt valid first =
     let e : length s.threads ≡ i = ap length (sym first.threads) ∙ (length-map (take i items) new_thread ∙ length-take-le i items le) in
     omega arith
 
--- no word was drawn
+-- no draw was made
 none_drawn : (start : ℕ) → generator_after start 0 ≡ started 64 multiplier_64 start (increment_of 64 54)
 unfolding state_after
 none_drawn start = refl
@@ -168,13 +168,13 @@ none_begun zero = refl
 none_begun (suc n) = let h = none_begun n in omega arith
 
 -- the board at the start
-pub begun_board : (setup copy : Setup) (sched : Schedule) (alts : Exchange) (io : Desks) (generator : Lcg) (chans : List ChanSetup) → copy ≡ setup → SchedFor setup.places sched (begin_state setup) → alts.waits ≡ [] → alts.channels.chans ≡ map new_channel chans → chans ≡ setup.chans → io ≡ begin_desks setup.files → generator ≡ started 64 multiplier_64 setup.start (increment_of 64 54) → Stands (record { setup = copy; sched = sched; alts = alts; io = io; generator = generator; entries = 0; over = false }) (begin_state setup)
+pub begun_board : (setup copy : Setup) (sched : Schedule) (alts : Exchange) (io : Desks) (generator : Lcg) (chans : List ChanSetup) → copy ≡ setup → SchedFor setup.places sched (begin_state setup) → alts.waits ≡ [] → alts.channels.chans ≡ map new_channel chans → chans ≡ setup.chans → io ≡ begin_desks setup.files → generator ≡ started 64 multiplier_64 setup.start (increment_of 64 54) → Stands (record { setup = copy; sched = sched; alts = alts; io = io; generator = generator; position = 0; over = false }) (begin_state setup)
 begun_board setup copy sched alts io generator chans es threads ew ec same ei eg = record {
   sched = rw es threads;
   alts = record { waits = ew; chans = ap (map emptied_chan) (ec ∙ ap (λ (cs : List ChanSetup). map new_channel cs) same) };
   io = record { ioprocs = rw ei refl };
   draws = rw es (eg ∙ sym (none_drawn setup.start));
   holds = rw es refl;
-  entries = refl;
+  position = refl;
   over = refl;
 }

@@ -23,7 +23,7 @@ use Rattle.p9_thread_calls.specs.Serves.{Serves as ThreadServes}
 use Rattle.p9_chan_calls.specs.Serves.{Serves as ChanServes}
 use Rattle.p9_machine.specs.declared.board.Board.{Board}
 use Rattle.p9_machine.specs.Board.{Stands, Gives, left}
-use Rattle.p9_machine.specs.Ready.{IsStray}
+use Rattle.p9_machine.specs.Reserved.{IsStray}
 use Rattle.p9_machine.specs.Shown.{is_told}
 use Rattle.p9_machine.proofs.Staying.{moved, with_sched, alts_stay, io_stays}
 
@@ -41,7 +41,7 @@ chans_served board s o r sched alts generator v st =
       io = io_stays board.io s o.state (ap (λ (x : State). x.ioprocs) e) st.io;
       draws = v.parts.drawn;
       holds = ap (λ (x : State). x.holds) e ∙ st.holds;
-      entries = ap (λ (x : State). x.entries) e ∙ st.entries;
+      position = ap (λ (x : State). x.position) e ∙ st.position;
       over = ap (λ (x : State). x.over) e ∙ st.over;
     })
 
@@ -55,7 +55,7 @@ io_stands board s o r sched io v st =
       io = v.ioprocs;
       draws = rw (ap (λ (x : State). x.draws) e) st.draws;
       holds = ap (λ (x : State). x.holds) e ∙ st.holds;
-      entries = ap (λ (x : State). x.entries) e ∙ st.entries;
+      position = ap (λ (x : State). x.position) e ∙ st.position;
       over = ap (λ (x : State). x.over) e ∙ st.over;
     }
 

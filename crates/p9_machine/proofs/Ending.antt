@@ -58,7 +58,7 @@ thread_ended board sched io t s runs threads ioprocs st sound = record {
     io = ioprocs s st.io;
     draws = st.draws;
     holds = st.holds;
-    entries = st.entries;
+    position = st.position;
     over = st.over;
   };
 }

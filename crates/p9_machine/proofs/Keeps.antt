@@ -23,14 +23,14 @@ now_of m = state_after m.board.setup m.trail.entries.items
 -- after an event
 pub kept_on : (m : Inside) (b : Board) (es : Filled Entry) (none : Option Reserved) (seat : Seat) (event : Event) (r : Reply) → none ≡ None → IsKept m → b.setup ≡ m.board.setup → Does (step m.board.setup seat event (now_of m)) r b → es.items ≡ with_entry m.trail.entries.items seat event r → calls_of b ≤ es.spare → IsKept (record m { board = b; trail = record m.trail { entries = es }; reserved = none })
 kept_on m b es none seat event r ne k same does items spare =
-    let counted : (now_of m).entries ≡ length m.trail.entries.items = k.board.entries ∙ k.counted in
+    let counted : (now_of m).position ≡ length m.trail.entries.items = k.board.position ∙ k.counted in
     let on = goes_on m.board.setup m.trail.entries.items es.items seat event r k.legal counted does.reply_is items in
     let stands : Stands b (state_after m.board.setup es.items) = subst (λ (s : State). Stands b s) on.state_is does.stands in
     record {
       valid = rw same k.valid;
       board = subst (λ (S : Setup). Stands b (state_after S es.items)) (sym same) stands;
       legal = subst (λ (S : Setup). IsLegal S es.items) (sym same) on.legal;
-      counted = sym does.stands.entries ∙ on.counted;
+      counted = sym does.stands.position ∙ on.counted;
       procs = k.procs ∙ ap (λ (S : Setup). S.procs) (sym same);
       start = k.start ∙ ap (λ (S : Setup). S.start) (sym same);
       spare = spare;

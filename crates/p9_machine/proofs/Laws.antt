@@ -23,11 +23,11 @@ legal-push : (S : Setup) (H : List Entry) (e : Entry) → IsLegal S H → e.repl
 unfolding state_after
 legal-push S H e legal r m = legal_from-push S (begin_state S) H e legal r m
 
-settled_counts : (b : Bool) (s n : State) → (settled b s n).entries ≡ cond b (s.entries + 1) s.entries
+settled_counts : (b : Bool) (s n : State) → (settled b s n).position ≡ cond b (s.position + 1) s.position
 settled_counts true s n = refl
 settled_counts false s n = refl
 
-step_counts : (S : Setup) (seat : Seat) (event : Event) (s : State) → (step S seat event s).state.entries ≡ cond (makes_entry (step S seat event s).reply) (s.entries + 1) s.entries
+step_counts : (S : Setup) (seat : Seat) (event : Event) (s : State) → (step S seat event s).state.position ≡ cond (makes_entry (step S seat event s).reply) (s.position + 1) s.position
 unfolding step
 step_counts S seat event s = settled_counts (makes_entry (outcome S seat event s).reply) s (outcome S seat event s).state
 
@@ -43,9 +43,9 @@ step_quiet S seat event s e = settled_quiet (makes_entry (outcome S seat event s
 pub record GoesOn (S : Setup) (H : List Entry) (s : State) : Type 0 where
   pub state_is : s ≡ state_after S H
   pub legal : IsLegal S H
-  pub counted : s.entries ≡ length H
+  pub counted : s.position ≡ length H
 
-goes_on_by : (b : Bool) (S : Setup) (H : List Entry) (seat : Seat) (event : Event) → IsLegal S H → (state_after S H).entries ≡ length H → makes_entry (step S seat event (state_after S H)).reply ≡ b → GoesOn S (cond b (H ++ record { seat = seat; event = event; reply = (step S seat event (state_after S H)).reply } ∷ []) H) (step S seat event (state_after S H)).state
+goes_on_by : (b : Bool) (S : Setup) (H : List Entry) (seat : Seat) (event : Event) → IsLegal S H → (state_after S H).position ≡ length H → makes_entry (step S seat event (state_after S H)).reply ≡ b → GoesOn S (cond b (H ++ record { seat = seat; event = event; reply = (step S seat event (state_after S H)).reply } ∷ []) H) (step S seat event (state_after S H)).state
 goes_on_by true S H seat event legal counted makes =
     let e : Entry = record { seat = seat; event = event; reply = (step S seat event (state_after S H)).reply } in
     record {
@@ -56,10 +56,10 @@ goes_on_by true S H seat event legal counted makes =
 goes_on_by false S H seat event legal counted makes = record {
   state_is = step_quiet S seat event (state_after S H) makes;
   legal = legal;
-  counted = ap (λ (s : State). s.entries) (step_quiet S seat event (state_after S H) makes) ∙ counted;
+  counted = ap (λ (s : State). s.position) (step_quiet S seat event (state_after S H) makes) ∙ counted;
 }
 
-pub goes_on : (S : Setup) (H K : List Entry) (seat : Seat) (event : Event) (r : Reply) → IsLegal S H → (state_after S H).entries ≡ length H → r ≡ (step S seat event (state_after S H)).reply → K ≡ with_entry H seat event r → GoesOn S K (step S seat event (state_after S H)).state
+pub goes_on : (S : Setup) (H K : List Entry) (seat : Seat) (event : Event) (r : Reply) → IsLegal S H → (state_after S H).position ≡ length H → r ≡ (step S seat event (state_after S H)).reply → K ≡ with_entry H seat event r → GoesOn S K (step S seat event (state_after S H)).state
 goes_on S H K seat event r legal counted re ke = rw (ke, re) (goes_on_by _ S H seat event legal counted refl)
 
 pub state_after-begin : (S : Setup) → state_after S [] ≡ begin_state S

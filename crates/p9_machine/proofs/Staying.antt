@@ -29,15 +29,15 @@ alts_stay x s n ew ec h = record { waits = h.waits ∙ sym ew; chans = h.chans �
 pub io_stays : (x : Desks) (s n : State) → n.ioprocs ≡ s.ioprocs → IoFor x s → IoFor x n
 io_stays x s n e h = record { ioprocs = e ∙ h.ioprocs }
 
--- another number of entries
-pub with_entries : (board : Board) (s : State) (n m : ℕ) → m ≡ n → Stands board s → Stands (record board { entries = n }) (record s { entries = m })
-with_entries board s n m e h = record {
+-- another position of the next entry
+pub with_position : (board : Board) (s : State) (n m : ℕ) → m ≡ n → Stands board s → Stands (record board { position = n }) (record s { position = m })
+with_position board s n m e h = record {
   sched = sched_stays board.setup.places board.sched s _ refl refl refl refl h.sched;
   alts = alts_stay board.alts s _ refl refl h.alts;
   io = io_stays board.io s _ refl h.io;
   draws = h.draws;
   holds = h.holds;
-  entries = e;
+  position = e;
   over = h.over;
 }
 
@@ -49,7 +49,7 @@ with_sched board sched s n same h st = record {
   io = io_stays board.io s n (ap (λ (x : State). x.ioprocs) same) st.io;
   draws = rw (ap (λ (x : State). x.draws) same) st.draws;
   holds = ap (λ (x : State). x.holds) same ∙ st.holds;
-  entries = ap (λ (x : State). x.entries) same ∙ st.entries;
+  position = ap (λ (x : State). x.position) same ∙ st.position;
   over = ap (λ (x : State). x.over) same ∙ st.over;
 }
 
@@ -65,16 +65,16 @@ moved board s o r e makes h = record { reply_is = e; stands = rw makes h }
 pub gives_by : (board : Board) (s : State) (o p : Outcome) (r : Reply) → o ≡ p → Gives s p r board → Gives s o r board
 gives_by board s o p r e h = subst (λ (q : Outcome). Gives s q r board) (sym e) h
 
-counts_by : (b : Bool) (mid : Board) (s n : State) (old : List Entry) (e : Entry) → s.entries ≡ length old → Stands mid (left b s n) → Stands (record mid { entries = length (cond b (old ++ e ∷ []) old) }) (settled b s n)
-counts_by true mid s n old e counted h = with_entries mid n _ (s.entries + 1) (rw (counted, length-append) refl) h
-counts_by false mid s n old e counted h = with_entries mid s (length old) s.entries counted h
+counts_by : (b : Bool) (mid : Board) (s n : State) (old : List Entry) (e : Entry) → s.position ≡ length old → Stands mid (left b s n) → Stands (record mid { position = length (cond b (old ++ e ∷ []) old) }) (settled b s n)
+counts_by true mid s n old e counted h = with_position mid n _ (s.position + 1) (rw (counted, length-append) refl) h
+counts_by false mid s n old e counted h = with_position mid s (length old) s.position counted h
 
 -- the entry is counted
-pub counts : (setup : Setup) (seat : Seat) (event : Event) (mid : Board) (s : State) (r : Reply) (old : List Entry) (m : ℕ) → s.entries ≡ length old → m ≡ length (with_entry old seat event r) → Gives s (outcome setup seat event s) r mid → Does (step setup seat event s) r (record mid { entries = m })
+pub counts : (setup : Setup) (seat : Seat) (event : Event) (mid : Board) (s : State) (r : Reply) (old : List Entry) (m : ℕ) → s.position ≡ length old → m ≡ length (with_entry old seat event r) → Gives s (outcome setup seat event s) r mid → Does (step setup seat event s) r (record mid { position = m })
 unfolding step
 counts setup seat event mid s r old m counted e g =
     let o = outcome setup seat event s in
     let x : Entry = record { seat = seat; event = event; reply = r } in
-    let at : Stands (record mid { entries = length (with_entry old seat event r) }) (settled (makes_entry r) s o.state) = counts_by (makes_entry r) mid s o.state old x counted g.stands in
-    let there : Stands (record mid { entries = m }) (settled (makes_entry r) s o.state) = subst (λ (k : ℕ). Stands (record mid { entries = k }) (settled (makes_entry r) s o.state)) (sym e) at in
-    record { reply_is = g.reply_is; stands = subst (λ (q : Reply). Stands (record mid { entries = m }) (settled (makes_entry q) s o.state)) g.reply_is there }
+    let at : Stands (record mid { position = length (with_entry old seat event r) }) (settled (makes_entry r) s o.state) = counts_by (makes_entry r) mid s o.state old x counted g.stands in
+    let there : Stands (record mid { position = m }) (settled (makes_entry r) s o.state) = subst (λ (k : ℕ). Stands (record mid { position = k }) (settled (makes_entry r) s o.state)) (sym e) at in
+    record { reply_is = g.reply_is; stands = subst (λ (q : Reply). Stands (record mid { position = m }) (settled (makes_entry q) s o.state)) g.reply_is there }

@@ -7,7 +7,7 @@ use Rattle.p9_manual.specs.State.{State, Outcome, by_id}
 use Rattle.p9_manual.specs.Step.{makes_entry, step}
 use Rattle.p9_manual.specs.History.{no_holds}
 use Rattle.p9_manual.specs.Sound.{IsSound}
-use Rattle.p9_manual.specs.Words.{generator_after}
+use Rattle.p9_manual.specs.Draws.{generator_after}
 use Rattle.p9_sched.specs.Schedule.{Schedule}
 use Rattle.p9_sched.specs.Stands.{SchedFor}
 use Rattle.p9_sched.specs.Turns.{place_of}
@@ -25,7 +25,7 @@ pub record Stands (board : Board) (s : State) : Type 0 where
   pub io : IoFor board.io s
   pub draws : board.generator ≡ generator_after board.setup.start s.draws
   pub holds : s.holds ≡ no_holds board.setup
-  pub entries : s.entries ≡ board.entries
+  pub position : s.position ≡ board.position
   pub over : s.over ≡ board.over
 
 -- it stands for a state that is sound
@@ -40,7 +40,7 @@ IsRunning t sched = place_of (by_id sched.threads t) ≡ place.Running
 abbrev pub calls_of : Board → ℕ
 calls_of board = begun_count board.io.ioprocs
 
--- what an event leaves, but for the number of entries: where its reply makes none, the state before it
+-- what an event leaves, but for the position of the next entry: where its reply makes none, the state before it
 abbrev pub left : Bool → State → State → State
 left true s n = n
 left false s n = s

@@ -10,7 +10,7 @@ use Rattle.p9_machine.specs.declared.board.Board.{Board}
 use Rattle.p9_machine.specs.declared.reserve.Reserved.{Reserved}
 use Rattle.p9_machine.specs.declared.machine.Machine.TheInside.{Inside}
 use Rattle.p9_machine.specs.Board.{Stands, calls_of}
-use Rattle.p9_machine.specs.Ready.{IsReady, seat_of, event_of}
+use Rattle.p9_machine.specs.Reserved.{IsReserved, seat_of, event_of}
 use Rattle.p9_machine.specs.Shown.{Shown}
 
 abbrev pub reserved_of : Option Reserved → Option (Seat × Event)
@@ -29,17 +29,17 @@ shown m =
 
 -- there is memory for what was reserved, if anything was: its own, that of its entry, and that of the entry for what comes
 -- of each call that is begun after it
-abbrev pub IsReadyIfAny : Board → Filled Entry → Option Reserved → Type 0
-IsReadyIfAny board entries None = Unit {0}
-IsReadyIfAny board entries (Some r) = IsReady board r × (calls_of board + 2 ≤ entries.spare)
+abbrev pub IsReservedIfAny : Board → Filled Entry → Option Reserved → Type 0
+IsReservedIfAny board entries None = Unit {0}
+IsReservedIfAny board entries (Some r) = IsReserved board r × (calls_of board + 2 ≤ entries.spare)
 
 -- the board is where the history leads, and there is memory for what comes
 pub record IsKept (m : Inside) : Type 0 where
   pub valid : IsValid m.board.setup
   pub board : Stands m.board (state_after m.board.setup m.trail.entries.items)
   pub legal : IsLegal m.board.setup m.trail.entries.items
-  pub counted : m.board.entries ≡ length m.trail.entries.items
+  pub counted : m.board.position ≡ length m.trail.entries.items
   pub procs : m.trail.procs ≡ m.board.setup.procs
   pub start : m.trail.start ≡ m.board.setup.start
   pub spare : calls_of m.board ≤ m.trail.entries.spare
-  pub memory : IsReadyIfAny m.board m.trail.entries m.reserved
+  pub memory : IsReservedIfAny m.board m.trail.entries m.reserved

@@ -3,6 +3,6 @@ pub mod Board
 pub mod Copies
 pub mod Kept
 pub mod Plain
-pub mod Ready
+pub mod Reserved
 pub mod Shown
 pub mod Turns

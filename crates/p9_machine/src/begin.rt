@@ -83,7 +83,7 @@ pub(crate) fn begin_board(alloc: Global, setup: &Setup) -> Result<Board, NoMemor
         alts,
         io,
         generator: Pcg32::new(setup.start, 54),
-        entries: 0,
+        position: 0,
         over: false,
     })
 }

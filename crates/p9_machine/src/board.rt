@@ -15,10 +15,10 @@ pub(crate) struct Board {
     pub(crate) alts: Alts,
     /// The ioprocs with their buffers. Each has the thread that waits for its call.
     pub(crate) io: IoBoard,
-    /// What draws the words by which alts choose.
+    /// What makes the draws by which alts choose.
     pub(crate) generator: Pcg32,
-    /// How many entries the trail has.
-    pub(crate) entries: u64,
+    /// The position of the next entry of the trail.
+    pub(crate) position: u64,
     /// The run is at its end.
     pub(crate) over: bool,
 }

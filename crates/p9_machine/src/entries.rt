@@ -5,13 +5,13 @@ ghost use Rattle.p9_manual.specs.History.{with_entry};
 ghost use Rattle.p9_manual.specs.Step.{makes_entry};
 ghost use Rattle.p9_sched.specs.Messages.{IsOfReply};
 ghost use Rattle.p9_machine.specs.Board.{IsBoard, DoesAll, Follows, calls_of};
-ghost use Rattle.p9_machine.specs.Ready.{IsFor};
+ghost use Rattle.p9_machine.specs.Reserved.{IsFor};
 ghost use Rattle.p9_machine.specs.Shown.{is_told};
 
 use crate::board::Board;
 use crate::copies::{copy_reply, makes_entry};
 use crate::reserve::Reserved;
-use crate::step::{outcome, tell_call};
+use crate::step::{did_call, outcome};
 use p9_word::{Effect, Entry, Event, Msg, Reply, Room, Seat};
 
 /// Makes the entry of an event with this reply, if one is made. `told` is a copy of the reply's message.
@@ -41,7 +41,7 @@ pub(crate) fn enter(
     requires memory { IsFor board.old seat event reserved }
     requires quiet { is_told event ≡ false }
     requires room { calls_of board.old + 2 ≤ entries.old.spare }
-    requires counted { board.old.entries ≡ length entries.old.items }
+    requires counted { board.old.position ≡ length entries.old.items }
     ensures does { DoesAll seat event board.old result board.new }
     ensures entries { entries.new.items ≡ with_entry entries.old.items seat event result }
     ensures follows { Follows board.old seat result board.new }
@@ -50,7 +50,7 @@ pub(crate) fn enter(
     let Reserved { needs, told } = reserved;
     let reply = outcome(board, needs);
     put_entry(entries, seat, event, &reply, told);
-    board.entries = entries.as_slice().len() as u64;
+    board.position = entries.as_slice().len() as u64;
     reply
 }
 
@@ -71,19 +71,19 @@ fn put_note(entries: &mut Room<Entry>, k: u32, effect: Effect, reply: &Reply)
     }
 }
 
-/// What ioproc k tells. Its entry has its place since its call began.
+/// What ioproc k tells. Its entry has its memory since its call began.
 fn record_at(board: &mut Board, entries: &mut Room<Entry>, k: u32, effect: Effect) -> Reply
     requires board { IsBoard board.old }
     requires spare { calls_of board.old ≤ entries.old.spare }
-    requires counted { board.old.entries ≡ length entries.old.items }
+    requires counted { board.old.position ≡ length entries.old.items }
     ensures does { DoesAll (IoSeat k) (IoDid effect) board.old result board.new }
     ensures entries { entries.new.items ≡ with_entry entries.old.items (IoSeat k) (IoDid effect) result }
     ensures follows { Follows board.old (IoSeat k) result board.new }
     ensures spare { calls_of board.new ≤ entries.new.spare }
 {
-    let reply = tell_call(board, k, &effect);
+    let reply = did_call(board, k, &effect);
     put_note(entries, k, effect, &reply);
-    board.entries = entries.as_slice().len() as u64;
+    board.position = entries.as_slice().len() as u64;
     reply
 }
 
@@ -96,7 +96,7 @@ pub(crate) fn record(
 ) -> Reply
     requires board { IsBoard board.old }
     requires spare { calls_of board.old ≤ entries.old.spare }
-    requires counted { board.old.entries ≡ length entries.old.items }
+    requires counted { board.old.position ≡ length entries.old.items }
     ensures does { DoesAll seat (IoDid effect) board.old result board.new }
     ensures entries { entries.new.items ≡ with_entry entries.old.items seat (IoDid effect) result }
     ensures follows { Follows board.old seat result board.new }

@@ -69,7 +69,7 @@ impl Machine {
         self.board.setup.places
     }
 
-    /// How many files, and so ioprocs, there are. Each ioproc has a place for a buffer.
+    /// How many files, and so ioprocs, there are. Each ioproc may have a buffer.
     pub fn files(&self) -> u32
         ensures files { result ≡ self.now.setup.files }
         ensures rooms { length self.now.rooms ≡ length (state_after self.now.setup self.now.entries).ioprocs }
@@ -102,7 +102,7 @@ impl Machine {
         ensures machine { self.new ≡ after_event self.old seat event result }
     {
         match event {
-            Event::IoDid(effect) => self.tell(seat, effect),
+            Event::IoDid(effect) => self.did(seat, effect),
             event => self.enter(seat, event),
         }
     }
@@ -127,7 +127,7 @@ impl Machine {
         )
     }
 
-    fn tell(&mut self, seat: Seat, effect: Effect) -> Reply
+    fn did(&mut self, seat: Seat, effect: Effect) -> Reply
         ensures reply { result ≡ reply_to self.old seat (IoDid effect) }
         ensures machine { self.new ≡ after_event self.old seat (IoDid effect) result }
     {

@@ -3,7 +3,7 @@ ghost use Rattle.p9_word.specs.declared.trail.Event.TheVariants.{Call};
 ghost use Rattle.p9_word.specs.declared.trail.Seat.TheVariants.{Proc, Io as IoSeat};
 ghost use Rattle.p9_word.specs.declared.request.Request.TheVariants.{Thread as ThreadRequest, Chan as ChanRequest, Io as IoRequest};
 ghost use Rattle.p9_machine.specs.Board.{TakesMemory};
-ghost use Rattle.p9_machine.specs.Ready.{IsFor, IsStray};
+ghost use Rattle.p9_machine.specs.Reserved.{IsFor, IsStray};
 
 use crate::board::Board;
 use crate::messages::{message_of_next, message_posted};

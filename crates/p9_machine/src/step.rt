@@ -11,7 +11,7 @@ ghost use Rattle.p9_thread_calls.specs.Memory.{HasMemory as HasThreadMemory, mes
 ghost use Rattle.p9_chan_calls.specs.Spares.{IsSpare as IsChanSpare};
 ghost use Rattle.p9_io_calls.specs.Needs.{IsSpare as IsIoSpare};
 ghost use Rattle.p9_machine.specs.Board.{IsBoard, IsRunning, GivesAll, Stays, Follows, calls_of};
-ghost use Rattle.p9_machine.specs.Ready.{HasRequestMemory, IsReadyFor, IsTold, request_of, seat_of, event_of, message_for};
+ghost use Rattle.p9_machine.specs.Reserved.{HasRequestMemory, IsReservedFor, IsTold, request_of, seat_of, event_of, message_for};
 ghost use Rattle.p9_machine.specs.Shown.{is_told};
 
 use crate::board::Board;
@@ -61,7 +61,7 @@ fn chan_call(board: &mut Board, t: Tid, request: ChanReq, spare: p9_chan_calls::
         &mut board.sched,
         &mut board.alts,
         &mut board.generator,
-        board.entries,
+        board.position,
         t,
         request,
         spare,
@@ -89,14 +89,14 @@ fn take_call(board: &mut Board, k: u32, spare: p9_io_calls::Spare) -> Reply
 }
 
 /// What an ioproc tells that its begun call came to.
-pub(crate) fn tell_call(board: &mut Board, k: u32, effect: &Effect) -> Reply
+pub(crate) fn did_call(board: &mut Board, k: u32, effect: &Effect) -> Reply
     requires { IsBoard board.old }
     ensures gives { GivesAll (λ s. io_event k s (Some effect.now)) board.old result board.new }
     ensures stays { Stays board.old board.new }
     ensures told { makes_entry result ≡ true → result ≡ Reply.Noted }
     ensures fewer { makes_entry result ≡ true → calls_of board.new + 1 ≡ calls_of board.old }
 {
-    p9_io_calls::tell(&mut board.sched, &mut board.io, k, effect)
+    p9_io_calls::did(&mut board.sched, &mut board.io, k, effect)
 }
 
 /// The reply to an event that comes from where none of its kind can.
@@ -141,11 +141,11 @@ fn called(board: &mut Board, p: u32, t: Tid, asked: Asked) -> Reply
     }
 }
 
-/// One event that there is memory for, but for the number of entries.
+/// One event that there is memory for, but for the position of the next entry.
 #[inline(always)]
 pub(crate) fn outcome(board: &mut Board, needs: Needs) -> Reply
     requires board { IsBoard board.old }
-    requires memory { IsReadyFor board.old needs }
+    requires memory { IsReservedFor board.old needs }
     requires quiet { is_told (event_of needs) ≡ false }
     ensures gives { GivesAll (outcome board.old.setup (seat_of needs) (event_of needs)) board.old result board.new }
     ensures follows { Follows board.old (seat_of needs) result board.new }

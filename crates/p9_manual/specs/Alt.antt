@@ -11,10 +11,10 @@ use Rattle.p9_word.specs.declared.setup.Setup.{Setup}
 use Rattle.p9_manual.specs.declared.state.Channel.{Channel}
 use Rattle.p9_manual.specs.declared.state.Party.{Party}
 use Rattle.p9_manual.specs.Offers.{Alternation, party, parties}
-use Rattle.p9_manual.specs.Entries.{is_nop}
-use Rattle.p9_manual.specs.Ready.{ready_entries, fits}
+use Rattle.p9_manual.specs.AltEntries.{is_nop}
+use Rattle.p9_manual.specs.ReadyEntries.{ready_entries, fits}
 use Rattle.p9_manual.specs.Commit.{Deal, commit}
-use Rattle.p9_manual.specs.Words.{word_after}
+use Rattle.p9_manual.specs.Draws.{draw_after}
 use Rattle.p9_manual.specs.State.{State, Outcome, bad, done, waiting, wake}
 
 -- what becomes of an alt: all its entries are closed; one of them goes on; it doesn't block; or the caller waits
@@ -28,9 +28,9 @@ pub data Verdict : Type 0 where
 abbrev pub is_closed_list : List AltEntry → Bool
 is_closed_list entries = list_any (λ e. not (is_nop e.op)) entries && list_all (λ e. is_nop e.op || e.err) entries
 
--- of two or more ready entries the one that the word says, by its remainder; of one, that one
+-- of two or more ready entries the one that the draw says, by its remainder; of one, that one
 abbrev pub chosen : ℕ → List ℕ → ℕ
-chosen word ready = slice_index ready (word % length ready)
+chosen draw ready = slice_index ready (draw % length ready)
 
 -- no entry is ready
 abbrev pub unready : Ending → Verdict
@@ -39,19 +39,19 @@ unready End = MustWait
 
 -- with these entries ready: none, one, or more
 abbrev pub verdict_on : ℕ → Party → Ending → List Channel → List Party → List ℕ → Verdict
-verdict_on word me ending chans waits [] = unready ending
-verdict_on word me ending chans waits (i ∷ []) = Commits (commit me i chans waits)
-verdict_on word me ending chans waits (i ∷ j ∷ more) = Commits (commit me (chosen word (i ∷ j ∷ more)) chans waits)
+verdict_on draw me ending chans waits [] = unready ending
+verdict_on draw me ending chans waits (i ∷ []) = Commits (commit me i chans waits)
+verdict_on draw me ending chans waits (i ∷ j ∷ more) = Commits (commit me (chosen draw (i ∷ j ∷ more)) chans waits)
 
--- the verdict on an alt of me, with this word for a choice
+-- the verdict on an alt of me, with this draw for a choice
 abbrev pub verdict : ℕ → Party → Ending → List Channel → List Party → Verdict
-verdict word me ending chans waits =
+verdict draw me ending chans waits =
     if is_closed_list me.entries then AllClosed
-    else verdict_on word me ending chans waits (ready_entries chans waits me.entries)
+    else verdict_on draw me ending chans waits (ready_entries chans waits me.entries)
 
--- a word is drawn where there is a choice
-abbrev pub draws_word : List Channel → List Party → List AltEntry → Bool
-draws_word chans waits entries = not (is_closed_list entries) && nat_lt 1 (length (ready_entries chans waits entries))
+-- a draw is made where there is a choice
+abbrev pub needs_draw : List Channel → List Party → List AltEntry → Bool
+needs_draw chans waits entries = not (is_closed_list entries) && nat_lt 1 (length (ready_entries chans waits entries))
 
 -- the threads that wait on, where one is woken
 abbrev pub parties_without : Option (ℕ × Answer) → List Party → List Party
@@ -74,14 +74,14 @@ decided t request s (Commits d) = dealt t d s
 decided t request s NoneReady = done t NoBlock s
 decided t request s MustWait = waiting t request s
 
--- the state once the word is drawn, where one is
+-- the state once the draw is made, where one is
 abbrev pub with_draw : List AltEntry → State → State
-with_draw entries s = record s { draws = if draws_word s.chans (parties s.waits) entries then s.draws + 1 else s.draws }
+with_draw entries s = record s { draws = if needs_draw s.chans (parties s.waits) entries then s.draws + 1 else s.draws }
 
 -- the verdict on an alt of thread t in a state
 abbrev pub verdict_of : Setup → ℕ → Alternation → State → Verdict
 verdict_of setup t a s =
-    verdict (word_after setup.start s.draws) (party t s.entries a) a.ending s.chans (parties s.waits)
+    verdict (draw_after setup.start s.draws) (party t s.position a) a.ending s.chans (parties s.waits)
 
 -- an alt of thread t, asked for by this request
 abbrev pub alt : Setup → ℕ → Request → Alternation → State → Outcome

@@ -7,7 +7,7 @@ use Rattle.p9_word.specs.declared.request.ChanReq.TheVariants as ask
 use Rattle.p9_word.specs.declared.setup.Setup.{Setup}
 use Rattle.p9_manual.specs.declared.state.Channel.{Channel}
 use Rattle.p9_manual.specs.Offers.{Alternation, alternation}
-use Rattle.p9_manual.specs.Ready.{unfreed}
+use Rattle.p9_manual.specs.ReadyEntries.{unfreed}
 use Rattle.p9_manual.specs.Alt.{alt}
 use Rattle.p9_manual.specs.Close.{close, free, closing}
 use Rattle.p9_manual.specs.State.{State, Outcome, by_id, bad, now}

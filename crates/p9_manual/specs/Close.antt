@@ -6,7 +6,7 @@ use Rattle.p9_word.specs.declared.answer.Answer.TheVariants.{Done, Number, Minus
 use Rattle.p9_manual.specs.declared.state.Channel.{Channel}
 use Rattle.p9_manual.specs.declared.state.Party.{Party}
 use Rattle.p9_manual.specs.Offers.{parties}
-use Rattle.p9_manual.specs.Entries.{is_on, waits_on, first_number}
+use Rattle.p9_manual.specs.AltEntries.{is_on, waits_on, first_number}
 use Rattle.p9_manual.specs.Told.{failed_answer}
 use Rattle.p9_manual.specs.State.{State, Outcome, changed, bad, now, wake}
 

@@ -9,8 +9,8 @@ use Rattle.p9_word.specs.declared.answer.Answer.{Answer}
 use Rattle.p9_manual.specs.declared.state.Channel.{Channel}
 use Rattle.p9_manual.specs.declared.state.Element.{Element}
 use Rattle.p9_manual.specs.declared.state.Party.{Party}
-use Rattle.p9_manual.specs.Entries.{sends_on, receives_on}
-use Rattle.p9_manual.specs.Ready.{is_unbuffered}
+use Rattle.p9_manual.specs.AltEntries.{sends_on, receives_on}
+use Rattle.p9_manual.specs.ReadyEntries.{is_unbuffered}
 use Rattle.p9_manual.specs.State.{Move, by_id, changed}
 use Rattle.p9_manual.specs.Told.{sent_bytes, kept_bytes, sent_answer, got_answer, failed_answer, receiver_answer, sender_answer, sender_bytes}
 

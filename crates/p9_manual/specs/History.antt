@@ -57,7 +57,7 @@ begin_state setup =
       opened = setup.opened;
       ioprocs = replicate setup.files Unmade;
       draws = 0;
-      entries = 0;
+      position = 0;
       over = false;
     }
 

@@ -5,7 +5,7 @@ pub mod Commit
 pub mod Create
 pub mod Effects
 pub mod Ends
-pub mod Entries
+pub mod AltEntries
 pub mod Files
 pub mod FilesInHistory
 pub mod History
@@ -15,7 +15,7 @@ pub mod Next
 pub mod Offers
 pub mod Places
 pub mod Programs
-pub mod Ready
+pub mod ReadyEntries
 pub mod Sound
 pub mod Standing
 pub mod State
@@ -23,4 +23,4 @@ pub mod Step
 pub mod Stuck
 pub mod Threads
 pub mod Told
-pub mod Words
+pub mod Draws

@@ -59,7 +59,7 @@ alternation_of (ChanRequest r) = alternation r
 alternation_of (ThreadRequest r) = None
 alternation_of (IoRequest r) = None
 
--- a thread with an alt that it made at this place of the trail
+-- a thread with an alt that it made at this position of the trail
 abbrev pub party : ℕ → ℕ → Alternation → Party
 party t at a = record { tid = t; at = at; single = a.single; entries = a.entries }
 

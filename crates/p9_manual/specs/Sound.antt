@@ -16,8 +16,8 @@ use Rattle.p9_manual.specs.declared.state.Ioproc.TheVariants.{Posted, Begun}
 use Rattle.p9_manual.specs.Effects.{message_length}
 use Rattle.p9_manual.specs.Standing.{StandOnce, IsRising, times}
 use Rattle.p9_manual.specs.Offers.{alternation, parties}
-use Rattle.p9_manual.specs.Entries.{sends_on, receives_on, waits_on}
-use Rattle.p9_manual.specs.Ready.{has_room, has_element}
+use Rattle.p9_manual.specs.AltEntries.{sends_on, receives_on, waits_on}
+use Rattle.p9_manual.specs.ReadyEntries.{has_room, has_element}
 use Rattle.p9_manual.specs.State.{State, by_id}
 
 -- a thread is in one of the open procs and has one of the programs
@@ -58,9 +58,9 @@ pub record WaitRightly (chans : List Channel) (waits : List Waiter) : Type 0 whe
 abbrev pub IsWithin : Channel → Type 0
 IsWithin chan = length chan.elements ≤ chan.cap
 
--- the places of the calls in which threads wait: each was made before now, and they came in this order
-pub record InOrder (entries : ℕ) (waits : List Waiter) : Type 0 where
-  pub before : All (λ w. w.at + 1 ≤ entries) waits
+-- the positions of the calls in which threads wait: each was made before now, and they came in this order
+pub record InOrder (position : ℕ) (waits : List Waiter) : Type 0 where
+  pub before : All (λ w. w.at + 1 ≤ position) waits
   pub rising : IsRising (map (λ w. w.at) waits)
 
 -- the call at ioproc k that thread t makes by a request, with t
@@ -108,6 +108,6 @@ pub record IsSound (setup : Setup) (s : State) : Type 0 where
   -- no channel has more elements than it may have
   pub within : All IsWithin s.chans
   -- the waits stand in the order of their calls
-  pub order : InOrder s.entries s.waits
+  pub order : InOrder s.position s.waits
   -- ioprocs and the threads that wait for them agree
   pub calls : CallsMatch s.ioprocs s.waits

@@ -22,8 +22,8 @@ pub record Proc : Type 0 where
   pub pending : List (List ℕ)
 
 -- threads, chans, procs and ioprocs stand by their ids, from 1 on; line has the ids of all ready threads in order, and
--- waits the waiting threads in the order in which they came. opened counts the procs that are open, draws the words
--- that were drawn, entries the entries of the trail; over says that the run is at its end
+-- waits the waiting threads in the order in which they came. opened counts the procs that are open, draws the draws
+-- that were made; position is that of the next entry of the trail; over says that the run is at its end
 pub record State : Type 0 where
   pub threads : List Thread
   pub line : List ℕ
@@ -34,7 +34,7 @@ pub record State : Type 0 where
   pub opened : ℕ
   pub ioprocs : List Ioproc
   pub draws : ℕ
-  pub entries : ℕ
+  pub position : ℕ
   pub over : Bool
 
 -- a value that left a channel: the channel, the number of the call that sent it, the thread that received it, and its bytes
@@ -106,10 +106,10 @@ bad s = now Bad s
 abbrev pub done : ℕ → Answer → State → Outcome
 done t a s = replied Waits (readied t a s)
 
--- the caller waits with its whole request and the place of its call
+-- the caller waits with its whole request and the position of its call
 abbrev pub waiting : ℕ → Request → State → Outcome
 waiting t r s =
-    replied Waits (record s { threads = placed t Waiting s.threads; waits = s.waits ++ record { tid = t; request = r; at = s.entries } ∷ [] })
+    replied Waits (record s { threads = placed t Waiting s.threads; waits = s.waits ++ record { tid = t; request = r; at = s.position } ∷ [] })
 
 -- a thread that waits goes on: it leaves the waits, and is ready with an answer, last in the line. Alts, closed channels and
 -- ioprocs all wake by this; so the threads that an event makes ready stand in the line as woken, then new, then the caller

@@ -26,7 +26,7 @@ served setup t (IoRequest r) s = io_call setup t r s
 unfoldable pub called : Setup → ℕ → ℕ → Request → State → Outcome
 called setup p t r s = if runs_there p (by_id s.threads t) then served setup t r s else same Stray s
 
--- an event, but for the number of entries: a proc makes calls and asks for turns, an ioproc takes calls and tells effects
+-- an event, but for the position of the next entry: a proc makes calls and asks for turns, an ioproc takes calls and tells effects
 unfoldable pub outcome : Setup → Seat → Event → State → Outcome
 outcome setup (Proc p) (Call t r) s = called setup p t r s
 outcome setup (Proc p) Next s = next_event setup p s
@@ -54,7 +54,7 @@ makes_entry Stray = false
 -- the state after an event in state s, whose outcome has state n: an event without an entry changes nothing, and any other
 -- makes the entries one more
 abbrev pub settled : Bool → State → State → State
-settled true s n = record n { entries = s.entries + 1 }
+settled true s n = record n { position = s.position + 1 }
 settled false s n = s
 
 -- an outcome, once its entry is counted

@@ -5,7 +5,7 @@ use Rattle.p9_word.specs.declared.alt.Slot.TheVariants.{Null, Give, Keep}
 use Rattle.p9_word.specs.declared.answer.Answer.{Answer}
 use Rattle.p9_word.specs.declared.answer.Answer.TheVariants.{Sent, Got, Index, Closed}
 use Rattle.p9_manual.specs.declared.state.Party.{Party}
-use Rattle.p9_manual.specs.Entries.{sends_to, receives_from, first_number, first_slot}
+use Rattle.p9_manual.specs.AltEntries.{sends_to, receives_from, first_number, first_slot}
 
 -- the bytes of what an entry sends: no value stands for as many zeros as an element has
 abbrev pub sent_bytes : ℕ → Slot → List ℕ

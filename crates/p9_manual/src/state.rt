@@ -43,7 +43,7 @@ pub struct Waiter {
     pub tid: Tid,
     /// Its whole request.
     pub request: Request,
-    /// The place of its call in the trail.
+    /// The position of its call in the trail.
     pub at: u64,
 }
 
@@ -52,7 +52,7 @@ pub struct Waiter {
 pub struct Party {
     /// The thread.
     pub tid: Tid,
-    /// The place of its call in the trail.
+    /// The position of its call in the trail.
     pub at: u64,
     /// Its answers have the forms of send and recv.
     pub single: bool,
@@ -63,7 +63,7 @@ pub struct Party {
 /// An element of a channel.
 #[derive(Drop)]
 pub struct Element {
-    /// The place of the call that sent it.
+    /// The position of the call that sent it.
     pub from: u64,
     /// Its bytes.
     pub msg: Msg,
@@ -84,7 +84,7 @@ pub struct Channel {
     pub elements: Seq<Element>,
 }
 
-/// An ioproc, which makes calls in a thread's place. ioproc(2).
+/// An ioproc, which makes calls for a thread. ioproc(2).
 #[derive(Drop)]
 pub enum Ioproc {
     /// It is not made yet.

@@ -1,8 +1,8 @@
 mod closings;
 mod file_sink;
 mod files;
+mod location;
 mod opening;
-mod place;
 mod std_sink;
 mod std_source;
 mod temporary;

@@ -76,7 +76,7 @@ fn is_written<R: rt::Files<File = File> + Sync>(
 }
 
 #[test]
-fn what_is_not_renamed_is_copied_over(rt: HostRuntime) -> Result<(), Fail> {
+fn what_stays_under_its_name_is_copied_over(rt: HostRuntime) -> Result<(), Fail> {
     let alloc = rt.alloc();
     let no_rename = NoRename { rt: &rt };
     fs::write(&rt, "busy.txt", "old, and longer")?;
@@ -97,7 +97,7 @@ fn what_is_not_renamed_is_copied_over(rt: HostRuntime) -> Result<(), Fail> {
 }
 
 #[test]
-fn a_failed_write_is_never_closed_well(rt: HostRuntime) -> Result<(), Fail> {
+fn a_failed_write_makes_the_close_fail(rt: HostRuntime) -> Result<(), Fail> {
     let alloc = rt.alloc();
     assert!(rt; is_written(&rt, alloc, b"/dev/null")?);
     assert!(rt; !is_written(&rt, alloc, b"/dev/full")?);

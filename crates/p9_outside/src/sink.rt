@@ -5,7 +5,7 @@ ghost use Rattle.p9_outside.specs.Causes.{HasCause};
 
 use crate::Failed;
 
-/// A place that takes bytes, one after the other.
+/// What takes bytes, one after the other.
 ///
 /// A sink may tell which bytes it has taken, as those in memory do, or tell nothing, as a file of the
 /// system. It counts its faults, and the count never falls.

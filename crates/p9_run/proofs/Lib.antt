@@ -4,7 +4,7 @@ pub mod TextReads
 pub mod Lifts
 pub mod Lives
 pub mod Paired
-pub mod Slots
+pub mod BodiesByThread
 pub mod Turns
 pub mod Untouched
 pub mod Services

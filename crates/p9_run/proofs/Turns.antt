@@ -14,7 +14,7 @@ use Rattle.p9_word.specs.declared.trail.Seat.{Seat}
 use Rattle.p9_word.specs.declared.trail.Entry.{Entry}
 use Rattle.p9_manual.specs.Programs.{Life, Unborn, Lives, Dead, life, life_after, given_answer, laid_down, ends_all, Asks, IsAskedBy, RunsPrograms}
 use Rattle.p9_run.proofs.Lives.{life-push, runs-push, same_id, other_id}
-use Rattle.p9_run.specs.Slots.{slot}
+use Rattle.p9_run.specs.BodiesByThread.{body_of}
 use Rattle.p9_laws.specs.RunReplies.{IsLiving}
 use Rattle.p9_manual.specs.Step.{makes_entry}
 use Rattle.p9_manual.specs.History.{with_entry}
@@ -50,23 +50,23 @@ module _ {B : Type 0} (asks : Asks) (plan : B → List Answer → Request) (stan
       let s = stands_now (Lives program arg answers) last old new request ready asked in
       record { plan_is = s.0; before = answers; answers_are = refl; stands_for = s.1 }
 
-  pub call_now : (H : List Entry) (slots : List (Option B)) (t : ℕ) (last : Answer) (old new : B) (request : Request) (seat : Seat) (a : Answer) → InTurn asks plan stands H slots t last old → Asked plan stands old new last request → InTurn asks plan stands (H ++ entry seat (Call t request) (Now a) ∷ []) slots t a new
-  call_now H slots t last old new request seat a turn asked =
+  pub call_now : (H : List Entry) (bodies : List (Option B)) (t : ℕ) (last : Answer) (old new : B) (request : Request) (seat : Seat) (a : Answer) → InTurn asks plan stands H bodies t last old → Asked plan stands old new last request → InTurn asks plan stands (H ++ entry seat (Call t request) (Now a) ∷ []) bodies t a new
+  call_now H bodies t last old new request seat a turn asked =
       record {
         runs = runs-push asks H (entry seat (Call t request) (Now a)) turn.runs (asked_now (life t H) last old new request turn.ready asked);
         others = λ u ne. rw (life-push, other_id u t ne) (turn.others u ne);
         ready = rw (life-push, same_id) (ready_now (life t H) last old new request a turn.ready asked);
       }
 
-  waits_each : (H : List Entry) (slots slots' : List (Option B)) (t : ℕ) (new : B) → Stands asks plan stands (life t H) (Some new) → ((u : ℕ) → u ≢ t → Stands asks plan stands (life u H) (slot slots u)) → ((u : ℕ) → slot slots' u ≡ (if u == t then Some new else slot slots u)) → (u : ℕ) → (((u == t) ≡ true) × (u ≡ t)) ⊎ (((u == t) ≡ false) × (u ≢ t)) → Stands asks plan stands (life u H) (slot slots' u)
-  waits_each H slots slots' t new here others put u (inl same) = rw (put, same.0, same.1) here
-  waits_each H slots slots' t new here others put u (inr differs) = rw (put, differs.0) (others u differs.1)
+  waits_each : (H : List Entry) (bodies bodies' : List (Option B)) (t : ℕ) (new : B) → Stands asks plan stands (life t H) (Some new) → ((u : ℕ) → u ≢ t → Stands asks plan stands (life u H) (body_of bodies u)) → ((u : ℕ) → body_of bodies' u ≡ (if u == t then Some new else body_of bodies u)) → (u : ℕ) → (((u == t) ≡ true) × (u ≡ t)) ⊎ (((u == t) ≡ false) × (u ≢ t)) → Stands asks plan stands (life u H) (body_of bodies' u)
+  waits_each H bodies bodies' t new here others put u (inl same) = rw (put, same.0, same.1) here
+  waits_each H bodies bodies' t new here others put u (inr differs) = rw (put, differs.0) (others u differs.1)
 
-  pub call_waits : (H : List Entry) (slots slots' : List (Option B)) (t : ℕ) (last : Answer) (old new : B) (request : Request) (seat : Seat) → InTurn asks plan stands H slots t last old → Asked plan stands old new last request → ((u : ℕ) → slot slots' u ≡ (if u == t then Some new else slot slots u)) → Between asks plan stands (H ++ entry seat (Call t request) Waits ∷ []) slots'
-  call_waits H slots slots' t last old new request seat turn asked put =
+  pub call_waits : (H : List Entry) (bodies bodies' : List (Option B)) (t : ℕ) (last : Answer) (old new : B) (request : Request) (seat : Seat) → InTurn asks plan stands H bodies t last old → Asked plan stands old new last request → ((u : ℕ) → body_of bodies' u ≡ (if u == t then Some new else body_of bodies u)) → Between asks plan stands (H ++ entry seat (Call t request) Waits ∷ []) bodies'
+  call_waits H bodies bodies' t last old new request seat turn asked put =
       record {
         runs = runs-push asks H (entry seat (Call t request) Waits) turn.runs (asked_now (life t H) last old new request turn.ready asked);
-        each = λ u. rw life-push (waits_each H slots slots' t new (stands_now (life t H) last old new request turn.ready asked) turn.others put u (eqb_tells u t));
+        each = λ u. rw life-push (waits_each H bodies bodies' t new (stands_now (life t H) last old new request turn.ready asked) turn.others put u (eqb_tells u t));
       }
 
   down : (l : Life) (o : Option B) → Stands asks plan stands (laid_down l) o
@@ -78,22 +78,22 @@ module _ {B : Type 0} (asks : Asks) (plan : B → List Answer → Request) (stan
   down_if true l o here = down l o
   down_if false l o here = here
 
-  ends_each : (H : List Entry) (slots : List (Option B)) (t u : ℕ) (seat : Seat) (request : Request) → ((v : ℕ) → v ≢ t → Stands asks plan stands (life v H) (slot slots v)) → (((u == t) ≡ true) × (u ≡ t)) ⊎ (((u == t) ≡ false) × (u ≢ t)) → Stands asks plan stands (life_after u (life u H) (entry seat (Call t request) Ended)) (slot slots u)
-  ends_each H slots t u seat request others (inl same) = rw same.0 (down (life u H) (slot slots u))
-  ends_each H slots t u seat request others (inr differs) = rw differs.0 (down_if (ends_all request) (life u H) (slot slots u) (others u differs.1))
+  ends_each : (H : List Entry) (bodies : List (Option B)) (t u : ℕ) (seat : Seat) (request : Request) → ((v : ℕ) → v ≢ t → Stands asks plan stands (life v H) (body_of bodies v)) → (((u == t) ≡ true) × (u ≡ t)) ⊎ (((u == t) ≡ false) × (u ≢ t)) → Stands asks plan stands (life_after u (life u H) (entry seat (Call t request) Ended)) (body_of bodies u)
+  ends_each H bodies t u seat request others (inl same) = rw same.0 (down (life u H) (body_of bodies u))
+  ends_each H bodies t u seat request others (inr differs) = rw differs.0 (down_if (ends_all request) (life u H) (body_of bodies u) (others u differs.1))
 
-  pub call_ended : (H : List Entry) (slots : List (Option B)) (t : ℕ) (last : Answer) (old new : B) (request : Request) (seat : Seat) → InTurn asks plan stands H slots t last old → Asked plan stands old new last request → Between asks plan stands (H ++ entry seat (Call t request) Ended ∷ []) slots
-  call_ended H slots t last old new request seat turn asked =
+  pub call_ended : (H : List Entry) (bodies : List (Option B)) (t : ℕ) (last : Answer) (old new : B) (request : Request) (seat : Seat) → InTurn asks plan stands H bodies t last old → Asked plan stands old new last request → Between asks plan stands (H ++ entry seat (Call t request) Ended ∷ []) bodies
+  call_ended H bodies t last old new request seat turn asked =
       record {
         runs = runs-push asks H (entry seat (Call t request) Ended) turn.runs (asked_now (life t H) last old new request turn.ready asked);
-        each = λ u. rw life-push (ends_each H slots t u seat request turn.others (eqb_tells u t));
+        each = λ u. rw life-push (ends_each H bodies t u seat request turn.others (eqb_tells u t));
       }
 
   pub runs_on : (H : List Entry) (seat : Seat) (r : Reply) → RunsPrograms asks H → RunsPrograms asks (H ++ entry seat Next r ∷ [])
   runs_on H seat r runs = runs-push asks H (entry seat Next r) runs tt
 
-  pub begins : (H : List Entry) (slots : List (Option B)) (seat : Seat) (t program arg : ℕ) (body : B) → Between asks plan stands H slots → plan body ≡ asks program arg → stands body [] → InTurn asks plan stands (H ++ entry seat Next (Begin t program arg) ∷ []) slots t Done body
-  begins H slots seat t program arg body between plan_is stands_for =
+  pub begins : (H : List Entry) (bodies : List (Option B)) (seat : Seat) (t program arg : ℕ) (body : B) → Between asks plan stands H bodies → plan body ≡ asks program arg → stands body [] → InTurn asks plan stands (H ++ entry seat Next (Begin t program arg) ∷ []) bodies t Done body
+  begins H bodies seat t program arg body between plan_is stands_for =
       record {
         runs = runs_on H seat (Begin t program arg) between.runs;
         others = λ u ne. rw (life-push, other_id u t ne) (between.each u);
@@ -105,8 +105,8 @@ module _ {B : Type 0} (asks : Asks) (plan : B → List Answer → Request) (stan
   was_ready Dead a body living here = living
   was_ready (Lives program arg answers) a body living here = record { plan_is = here.0; before = answers; answers_are = refl; stands_for = here.1 }
 
-  pub turns : (H : List Entry) (slots slots' : List (Option B)) (seat : Seat) (t : ℕ) (a : Answer) (body : B) → Between asks plan stands H slots → IsLiving (life t H) → Some body ≡ slot slots t → ((u : ℕ) → slot slots' u ≡ (if u == t then None else slot slots u)) → InTurn asks plan stands (H ++ entry seat Next (Turn t a) ∷ []) slots' t a body
-  turns H slots slots' seat t a body between living body_is took =
+  pub turns : (H : List Entry) (bodies bodies' : List (Option B)) (seat : Seat) (t : ℕ) (a : Answer) (body : B) → Between asks plan stands H bodies → IsLiving (life t H) → Some body ≡ body_of bodies t → ((u : ℕ) → body_of bodies' u ≡ (if u == t then None else body_of bodies u)) → InTurn asks plan stands (H ++ entry seat Next (Turn t a) ∷ []) bodies' t a body
+  turns H bodies bodies' seat t a body between living body_is took =
       record {
         runs = runs_on H seat (Turn t a) between.runs;
         others = λ u ne. rw (life-push, took, other_id u t ne) (between.each u);
@@ -118,17 +118,17 @@ module _ {B : Type 0} (asks : Asks) (plan : B → List Answer → Request) (stan
   quiet_each l u seat (Turn t a) no_begin no_turn = absurd (no_turn t a refl)
   quiet_each l u seat r no_begin no_turn = refl
 
-  quiet_by : (b : Bool) (H : List Entry) (slots : List (Option B)) (seat : Seat) (r : Reply) → Between asks plan stands H slots → ((t program arg : ℕ) → r ≡ Begin t program arg → ⊥) → ((t : ℕ) (a : Answer) → r ≡ Turn t a → ⊥) → Between asks plan stands (if b then H ++ entry seat Next r ∷ [] else H) slots
-  quiet_by false H slots seat r between no_begin no_turn = between
-  quiet_by true H slots seat r between no_begin no_turn =
+  quiet_by : (b : Bool) (H : List Entry) (bodies : List (Option B)) (seat : Seat) (r : Reply) → Between asks plan stands H bodies → ((t program arg : ℕ) → r ≡ Begin t program arg → ⊥) → ((t : ℕ) (a : Answer) → r ≡ Turn t a → ⊥) → Between asks plan stands (if b then H ++ entry seat Next r ∷ [] else H) bodies
+  quiet_by false H bodies seat r between no_begin no_turn = between
+  quiet_by true H bodies seat r between no_begin no_turn =
       record {
         runs = runs_on H seat r between.runs;
         each = λ u. rw (life-push, quiet_each (life u H) u seat r no_begin no_turn) (between.each u);
       }
 
   -- a turn in which no thread of the proc runs
-  pub quiet : (H : List Entry) (slots : List (Option B)) (seat : Seat) (r : Reply) → Between asks plan stands H slots → ((t program arg : ℕ) → r ≡ Begin t program arg → ⊥) → ((t : ℕ) (a : Answer) → r ≡ Turn t a → ⊥) → Between asks plan stands (with_entry H seat Next r) slots
-  quiet H slots seat r = quiet_by (makes_entry r) H slots seat r
+  pub quiet : (H : List Entry) (bodies : List (Option B)) (seat : Seat) (r : Reply) → Between asks plan stands H bodies → ((t program arg : ℕ) → r ≡ Begin t program arg → ⊥) → ((t : ℕ) (a : Answer) → r ≡ Turn t a → ⊥) → Between asks plan stands (with_entry H seat Next r) bodies
+  quiet H bodies seat r = quiet_by (makes_entry r) H bodies seat r
 
   -- a living thread has its body
   pub living_has : (l : Life) (o : Option B) → IsLiving l → Stands asks plan stands l o → o ≡ None → ⊥
@@ -137,5 +137,5 @@ module _ {B : Type 0} (asks : Asks) (plan : B → List Answer → Request) (stan
   living_has (Lives program arg answers) None living here none = here
   living_has (Lives program arg answers) (Some b) living here none = cc
 
-  pub left_between : (H K : List Entry) (slots : List (Option B)) → TouchesNoThread H K → Between asks plan stands H slots → Between asks plan stands K slots
-  left_between H K slots left between = record { runs = left.runs asks between.runs; each = λ u. rw (left.lives u) (between.each u) }
+  pub left_between : (H K : List Entry) (bodies : List (Option B)) → TouchesNoThread H K → Between asks plan stands H bodies → Between asks plan stands K bodies
+  left_between H K bodies left between = record { runs = left.runs asks between.runs; each = λ u. rw (left.lives u) (between.each u) }

@@ -13,7 +13,7 @@ pub mod CopyEnd
 pub mod CopyFinish
 pub mod Ended
 pub mod PipeMain
-pub mod Slots
+pub mod BodiesByThread
 pub mod Stands
 pub mod Over
 pub mod Untouched

@@ -5,7 +5,7 @@ use Rattle.p9_word.specs.declared.request.Request.{Request}
 use Rattle.p9_word.specs.declared.trail.Entry.{Entry}
 use Rattle.p9_manual.specs.Programs.{Life, Unborn, Lives, Dead, life, Asks, RunsPrograms}
 use Rattle.p9_run.specs.declared.proc_turn.Running.{Running}
-use Rattle.p9_run.specs.Slots.{slot}
+use Rattle.p9_run.specs.BodiesByThread.{body_of}
 
 -- a thread's body stands for the answers that the history gives it
 abbrev pub Stands : {B : Type 0} → Asks → (B → List Answer → Request) → (B → List Answer → Type 0) → Life → Option B → Type 0
@@ -28,16 +28,16 @@ IsReady asks plan stands Unborn last b = ⊥
 IsReady asks plan stands Dead last b = ⊥
 
 -- between two turns: each living thread's body is here
-pub record Between {B : Type 0} (asks : Asks) (plan : B → List Answer → Request) (stands : B → List Answer → Type 0) (history : List Entry) (slots : List (Option B)) : Type 0 where
+pub record Between {B : Type 0} (asks : Asks) (plan : B → List Answer → Request) (stands : B → List Answer → Type 0) (history : List Entry) (bodies : List (Option B)) : Type 0 where
   pub runs : RunsPrograms asks history
-  pub each : (u : ℕ) → Stands asks plan stands (life u history) (slot slots u)
+  pub each : (u : ℕ) → Stands asks plan stands (life u history) (body_of bodies u)
 
 -- in a turn of thread t: its body is out, and the others are here
-pub record InTurn {B : Type 0} (asks : Asks) (plan : B → List Answer → Request) (stands : B → List Answer → Type 0) (history : List Entry) (slots : List (Option B)) (t : ℕ) (last : Answer) (b : B) : Type 0 where
+pub record InTurn {B : Type 0} (asks : Asks) (plan : B → List Answer → Request) (stands : B → List Answer → Type 0) (history : List Entry) (bodies : List (Option B)) (t : ℕ) (last : Answer) (b : B) : Type 0 where
   pub runs : RunsPrograms asks history
-  pub others : (u : ℕ) → u ≢ t → Stands asks plan stands (life u history) (slot slots u)
+  pub others : (u : ℕ) → u ≢ t → Stands asks plan stands (life u history) (body_of bodies u)
   pub ready : IsReady asks plan stands (life t history) last b
 
 -- the same of a thread that is taken out for its turn
 abbrev pub HasTurn : {B : Type 0} → Asks → (B → List Answer → Request) → (B → List Answer → Type 0) → List Entry → List (Option B) → Running B → Type 0
-HasTurn asks plan stands history slots thread = InTurn asks plan stands history slots thread.tid thread.last thread.body
+HasTurn asks plan stands history bodies thread = InTurn asks plan stands history bodies thread.tid thread.last thread.body

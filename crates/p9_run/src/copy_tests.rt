@@ -50,7 +50,7 @@ fn call<R: Threads + Wait + Abort + Sync>(
     })
 }
 
-/// Bytes that differ from place to place.
+/// Bytes that differ from each to the next.
 fn pattern(alloc: Global, len: usize) -> Result<Vec<u8>, Fail> {
     let mut bytes = Vec::new(alloc);
     for i in 0..len {

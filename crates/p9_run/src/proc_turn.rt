@@ -22,7 +22,7 @@ struct Running<B> {
     last: Answer,
 }
 
-/// Runs a thread of proc `p` until it waits or has ended. While it runs its body is in nobody's place.
+/// Runs a thread of proc `p` until it waits or has ended. While it runs its body isn't among the bodies.
 #[tactic(auto, using(crate::proofs::Untouched::touches_with, crate::proofs::Untouched::touches_trans, crate::proofs::Untouched::touches_none))]
 fn run_thread<R: Wait, E: Engine, P: Programs>(
     rt: &R,
@@ -32,11 +32,11 @@ fn run_thread<R: Wait, E: Engine, P: Programs>(
     p: u32,
     thread: Running<P::B>,
 ) -> Result<(), NoMemory>
-    requires turn { HasTurn (P.asks programs.now) P.B.plan P.B.stands_for (E.entries engine.old) bodies.old.slots.items thread }
+    requires turn { HasTurn (P.asks programs.now) P.B.plan P.B.stands_for (E.entries engine.old) bodies.old.by_thread.items thread }
     requires runs { RunsAfter (E.setup engine.old) (E.entries engine.old) p thread.tid }
-    requires room { thread.tid < length bodies.old.slots.items }
+    requires room { thread.tid < length bodies.old.by_thread.items }
     ensures setup { E.setup engine.new ≡ E.setup engine.old }
-    ensures ok { OnOk result (Between (P.asks programs.now) P.B.plan P.B.stands_for (E.entries engine.new) bodies.new.slots.items) }
+    ensures ok { OnOk result (Between (P.asks programs.now) P.B.plan P.B.stands_for (E.entries engine.new) bodies.new.by_thread.items) }
     ensures refused { OnErr result (RunsPrograms (P.asks programs.now) (E.entries engine.new)) }
     ensures over { StaysOver (reply_at (E.setup engine.old) (E.entries engine.old)) (reply_at (E.setup engine.new) (E.entries engine.new)) }
     ensures files { TouchesNoFile (E.entries engine.old) (E.entries engine.new) }
@@ -71,10 +71,10 @@ fn begin_thread<R: Wait, E: Engine, P: Programs>(
     p: u32,
     thread: Running<P::B>,
 ) -> Result<(), NoMemory>
-    requires turn { HasTurn (P.asks programs.now) P.B.plan P.B.stands_for (E.entries engine.old) bodies.old.slots.items thread }
+    requires turn { HasTurn (P.asks programs.now) P.B.plan P.B.stands_for (E.entries engine.old) bodies.old.by_thread.items thread }
     requires runs { RunsAfter (E.setup engine.old) (E.entries engine.old) p thread.tid }
     ensures setup { E.setup engine.new ≡ E.setup engine.old }
-    ensures ok { OnOk result (Between (P.asks programs.now) P.B.plan P.B.stands_for (E.entries engine.new) bodies.new.slots.items) }
+    ensures ok { OnOk result (Between (P.asks programs.now) P.B.plan P.B.stands_for (E.entries engine.new) bodies.new.by_thread.items) }
     ensures refused { OnErr result (RunsPrograms (P.asks programs.now) (E.entries engine.new)) }
     ensures over { StaysOver (reply_at (E.setup engine.old) (E.entries engine.old)) (reply_at (E.setup engine.new) (E.entries engine.new)) }
     ensures files { TouchesNoFile (E.entries engine.old) (E.entries engine.new) }
@@ -95,9 +95,9 @@ pub(crate) fn proc_turn<R: Wait, E: Engine, P: Programs>(
 ) -> Result<bool, NoMemory>
     requires valid { IsValid (E.setup engine.old) }
     requires programs { P.programs programs.now ≡ (E.setup engine.old).programs }
-    requires between { Between (P.asks programs.now) P.B.plan P.B.stands_for (E.entries engine.old) bodies.old.slots.items }
+    requires between { Between (P.asks programs.now) P.B.plan P.B.stands_for (E.entries engine.old) bodies.old.by_thread.items }
     ensures setup { E.setup engine.new ≡ E.setup engine.old }
-    ensures ok { OnOk result (Between (P.asks programs.now) P.B.plan P.B.stands_for (E.entries engine.new) bodies.new.slots.items) }
+    ensures ok { OnOk result (Between (P.asks programs.now) P.B.plan P.B.stands_for (E.entries engine.new) bodies.new.by_thread.items) }
     ensures refused { OnErr result (RunsPrograms (P.asks programs.now) (E.entries engine.new)) }
     ensures is_over { result ≡ Ok true → reply_at (E.setup engine.new) (E.entries engine.new) (Proc p) Next ≡ Over }
     ensures over { StaysOver (reply_at (E.setup engine.old) (E.entries engine.old)) (reply_at (E.setup engine.new) (E.entries engine.new)) }

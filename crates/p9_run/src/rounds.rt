@@ -40,9 +40,9 @@ fn proc_turns<R: Wait, E: Engine, P: Programs>(
 ) -> Result<bool, NoMemory>
     requires valid { IsValid (E.setup engine.old) }
     requires programs { P.programs programs.now ≡ (E.setup engine.old).programs }
-    requires between { Between (P.asks programs.now) P.B.plan P.B.stands_for (E.entries engine.old) bodies.old.slots.items }
+    requires between { Between (P.asks programs.now) P.B.plan P.B.stands_for (E.entries engine.old) bodies.old.by_thread.items }
     ensures setup { E.setup engine.new ≡ E.setup engine.old }
-    ensures ok { OnOk result (Between (P.asks programs.now) P.B.plan P.B.stands_for (E.entries engine.new) bodies.new.slots.items) }
+    ensures ok { OnOk result (Between (P.asks programs.now) P.B.plan P.B.stands_for (E.entries engine.new) bodies.new.by_thread.items) }
     ensures refused { OnErr result (RunsPrograms (P.asks programs.now) (E.entries engine.new)) }
     ensures all_over { result ≡ Ok true → AllOver procs (reply_at (E.setup engine.new) (E.entries engine.new)) }
     ensures files { TouchesNoFile (E.entries engine.old) (E.entries engine.new) }
@@ -69,7 +69,7 @@ pub(crate) fn run_rounds<R: Wait, E: Engine, P: Programs, D: Device>(
 ) -> Result<(), NoMemory>
     requires valid { IsValid (E.setup engine.old) }
     requires programs { P.programs programs.now ≡ (E.setup engine.old).programs }
-    requires between { Between (P.asks programs.now) P.B.plan P.B.stands_for (E.entries engine.old) bodies.old.slots.items }
+    requires between { Between (P.asks programs.now) P.B.plan P.B.stands_for (E.entries engine.old) bodies.old.by_thread.items }
     requires devices { length devices.old + 1 < 2 ^ 32 }
     ensures setup { E.setup engine.new ≡ E.setup engine.old }
     ensures all_over { OnOk result (AllOver procs (reply_at (E.setup engine.new) (E.entries engine.new))) }

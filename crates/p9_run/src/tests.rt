@@ -217,7 +217,7 @@ fn misses(rt: &impl Abort, from: &[u8], to: &[u8], end: &[u8], alloc: Global) ->
 }
 
 #[test]
-fn near_misses_are_no_texts(rt: HostRuntime) -> Result<(), Fail> {
+fn near_misses_are_refused(rt: HostRuntime) -> Result<(), Fail> {
     let alloc = rt.alloc();
     misses(&rt, b"a", b"b", b"thread w write o from a", alloc)?;
     misses(&rt, b"a", b"b", b"thread w write o from a\n\n", alloc)?;

@@ -1,4 +1,4 @@
--- What a change at one place of a list does to the list.
+-- What a change at one index of a list does to the list.
 use Rattle.std.proofs.Common.{◌≡◌, ◌≢◌, ℕ, zero, suc, ◌+◌, ◌-◌, ◌<◌, ◌≤◌, ◌⊎◌, inl, inr, eqb, Bool, true, false, List, [], ◌∷◌, ◌++◌, length, map, replicate, add-one, get_or, set, Option, Some, None, refl, sym, ap, ◌∙◌, arith}
 use Rattle.std.proofs.lemmas.Bool.{eqb-true, eqb-false, lt-ltb}
 use Rattle.std.specs.Prelude.{option_map, slice_get, if◌then◌else◌}
@@ -34,7 +34,7 @@ replicate_more (suc n) x = ap (λ zs. x ∷ zs) (replicate_more n x)
 pub push_map : {A B : Type 0} (f : A → B) → (xs : List A) (x : A) (n : ℕ) (y : B) → map f xs ≡ replicate n y → f x ≡ y → map f (xs ++ x ∷ []) ≡ replicate (n + 1) y
 push_map f xs x n y e h = rw (map_push f xs x, e, h, add-one) (replicate_more n y)
 
--- g of each item from place i on
+-- g of each item from index i on
 abbrev pub from : {A : Type 0} → (A → A) → ℕ → List A → List A
 from g zero xs = map g xs
 from g (suc i) [] = []
@@ -99,7 +99,7 @@ positive : {A : Type 0} → (xs : List A) (t : ℕ) (x : A) → by_id xs t ≡ S
 positive xs zero x e = cc
 positive xs (suc t) x e = omega arith
 
--- what has an id is at its place
+-- what has an id is at its index
 pub id_at : {A : Type 0} → (xs : List A) (t : ℕ) (x : A) → by_id xs t ≡ Some x → slice_get xs (t - 1) ≡ Some x
 id_at xs t x e = sym (by_id_at xs t (positive xs t x e)) ∙ e
 
@@ -174,7 +174,7 @@ map_by f xs u (inr off) =
 pub by_id-map : {A B : Type 0} (f : A → B) → (xs : List A) (u : ℕ) → by_id (map f xs) u ≡ option_map f (by_id xs u)
 by_id-map f xs u = map_by f xs u (at_or_not 0 u)
 
--- a test that a change at one place leaves as it was, is as it was at each id
+-- a test that a change at one index leaves as it was, is as it was at each id
 pub same_test : {A B : Type 0} (F : Option A → B) (g : A → A) → (xs : List A) (t : ℕ) (x : A) (u : ℕ) → by_id xs t ≡ Some x → F (Some (g x)) ≡ F (Some x) → (u ≡ t) ⊎ (u ≢ t) → F (by_id (changed g xs (t - 1)) u) ≡ F (by_id xs u)
 same_test F g xs t x u at same (inl e) =
     rw (e, by_id-changed_same g xs t (positive xs t x at), at) same

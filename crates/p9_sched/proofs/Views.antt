@@ -10,7 +10,7 @@ use Rattle.p9_manual.specs.Create.{fresh}
 use Rattle.p9_manual.specs.Ends.{at_end}
 use Rattle.p9_manual.specs.Places.{is_ready}
 use Rattle.p9_manual.specs.State.{by_id, changed, at_place}
-use Rattle.p9_sched.specs.declared.slot.Slot.{Slot}
+use Rattle.p9_sched.specs.declared.row.Row.{Row}
 use Rattle.p9_sched.specs.declared.turns.Place.TheVariants as place
 use Rattle.p9_sched.specs.declared.turns.Ready.{Ready as Turn}
 use Rattle.p9_sched.specs.declared.turns.Ready.TheVariants.{New as First, Old}
@@ -18,20 +18,20 @@ use Rattle.p9_sched.specs.declared.sched.Sched.TheInside.{Inside}
 use Rattle.p9_sched.specs.Kept.{IsSound, shown}
 use Rattle.p9_sched.specs.Lined.{Lined, line_at, bare, no_lane, joined, cleared, worded}
 use Rattle.p9_sched.specs.Schedule.{Schedule, Rooms, no_rooms, all_rooms, begun, begin_schedule, IsMade, IsPlace, proc_of, line_in, line_of, with_last, with_new, emptied, all_ended, with_proc_word}
-use Rattle.p9_sched.specs.Stored.{Stored, HasId, slot_of}
+use Rattle.p9_sched.specs.Stored.{Stored, HasId, row_of}
 use Rattle.p9_sched.specs.Turns.{place_of, answer_at, answer_of, first_answer, answer_next, ready_at, ready_of, turn_of, next_in}
 use Rattle.p9_sched.proofs.Asks.{IsAway, IsAlive, away, alive}
 use Rattle.p9_sched.proofs.Lists.{map-changed, map-changed_same, map-map, by_id-map}
 use Rattle.p9_sched.proofs.Sound.{proc_is}
 
--- the slot of a thread has what the thread has
-pub slot_is : (o : Option Thread) (x : Thread) (slot : Slot) → o ≡ Some x → option_map slot_of o ≡ Some slot → slot_of x ≡ slot
-slot_is o x slot at e =
-    let same : Some (slot_of x) ≡ Some slot = ap (option_map slot_of) (sym at) ∙ e in
+-- the row of a thread has what the thread has
+pub row_is : (o : Option Thread) (x : Thread) (row : Row) → o ≡ Some x → option_map row_of o ≡ Some row → row_of x ≡ row
+row_is o x row at e =
+    let same : Some (row_of x) ≡ Some row = ap (option_map row_of) (sym at) ∙ e in
     cc
 
-pub slot_proc : (o : Option Thread) (x : Thread) (slot : Slot) → o ≡ Some x → option_map slot_of o ≡ Some slot → x.proc_no ≡ slot.proc_no
-slot_proc o x slot at e = ap (λ (s : Slot). s.proc_no) (slot_is o x slot at e)
+pub row_proc : (o : Option Thread) (x : Thread) (row : Row) → o ≡ Some x → option_map row_of o ≡ Some row → x.proc_no ≡ row.proc_no
+row_proc o x row at e = ap (λ (s : Row). s.proc_no) (row_is o x row at e)
 
 pub seen_proc : (s : Inside) (v : Schedule) (t p : ℕ) (x : Thread) → shown s ≡ v → by_id s.table.threads t ≡ Some x → x.proc_no ≡ p → proc_of (by_id v.threads t) ≡ p
 seen_proc s v t p x e at mine =
@@ -231,8 +231,8 @@ pub old_turn : (t : ℕ) (x : Thread) (a : Answer) (r : Option Turn) → x.place
 old_turn t x a r place is = is ∙ sym (ap (ready_at t x.program x.arg) place)
 
 -- a new one begins
-pub new_turn : (t : ℕ) (x : Thread) (slot : Slot) (r : Option Turn) → x.place ≡ New → slot_of (at_place Running x) ≡ slot → r ≡ Some (First t slot.program slot.arg) → r ≡ ready_at t x.program x.arg x.place
-new_turn t x slot r place same is =
-    let program : slot.program ≡ x.program = ap (λ (s : Slot). s.program) (sym same) in
-    let arg : slot.arg ≡ x.arg = ap (λ (s : Slot). s.arg) (sym same) in
+pub new_turn : (t : ℕ) (x : Thread) (row : Row) (r : Option Turn) → x.place ≡ New → row_of (at_place Running x) ≡ row → r ≡ Some (First t row.program row.arg) → r ≡ ready_at t x.program x.arg x.place
+new_turn t x row r place same is =
+    let program : row.program ≡ x.program = ap (λ (s : Row). s.program) (sym same) in
+    let arg : row.arg ≡ x.arg = ap (λ (s : Row). s.arg) (sym same) in
     is ∙ (rw (program, arg) refl ∙ sym (ap (ready_at t x.program x.arg) place))

@@ -1,10 +1,10 @@
--- How the table of threads keeps them: a slot for each, and the groups and names of those that have one.
+-- How the table of threads keeps them: a row for each, and the groups and names of those that have one.
 use Rattle.std.specs.Prelude.{ℕ, suc, ◌≤◌, false, List, [], ◌∷◌, ◌++◌, Option, unwrap_or, length}
 use Rattle.p9_manual.specs.declared.state.Place.TheVariants.{Ended}
 use Rattle.p9_manual.specs.declared.state.Thread.{Thread}
 use Rattle.p9_manual.specs.Create.{fresh}
 use Rattle.p9_sched.specs.Schedule.{Rooms}
-use Rattle.p9_sched.specs.declared.slot.Slot.{Slot}
+use Rattle.p9_sched.specs.declared.row.Row.{Row}
 
 -- the threads by their ids, and which rooms are there
 pub record Stored : Type 0 where
@@ -17,32 +17,32 @@ pub record HasId {A : Type 0} (id : ℕ) (xs : List A) : Type 0 where
   pub to : id ≤ length xs
 
 -- the thread with this id
-abbrev pub thread_of : (ℕ → Option ℕ) → (ℕ → Option (List ℕ)) → ℕ → Slot → Thread
-thread_of groups names t slot =
+abbrev pub thread_of : (ℕ → Option ℕ) → (ℕ → Option (List ℕ)) → ℕ → Row → Thread
+thread_of groups names t row =
     record {
-      proc_no = slot.proc_no;
-      program = slot.program;
-      arg = slot.arg;
+      proc_no = row.proc_no;
+      program = row.program;
+      arg = row.arg;
       group = unwrap_or (groups t) 0;
       name = unwrap_or (names t) [];
-      word = slot.word;
+      word = row.word;
       marked = false;
-      place = slot.place;
+      place = row.place;
     }
 
--- the threads of these slots, whose ids count from t on
-abbrev pub threads_of : (ℕ → Option ℕ) → (ℕ → Option (List ℕ)) → ℕ → List Slot → List Thread
+-- the threads of these rows, whose ids count from t on
+abbrev pub threads_of : (ℕ → Option ℕ) → (ℕ → Option (List ℕ)) → ℕ → List Row → List Thread
 threads_of groups names t [] = []
-threads_of groups names t (slot ∷ slots) = thread_of groups names t slot ∷ threads_of groups names (suc t) slots
+threads_of groups names t (row ∷ rows) = thread_of groups names t row ∷ threads_of groups names (suc t) rows
 
--- what a slot keeps of a thread
-abbrev pub slot_of : Thread → Slot
-slot_of thread =
+-- what a row keeps of a thread
+abbrev pub row_of : Thread → Row
+row_of thread =
     record { proc_no = thread.proc_no; program = thread.program; arg = thread.arg; word = thread.word; place = thread.place }
 
--- a slot of a thread that has ended
-abbrev pub slot_ended : Slot → Slot
-slot_ended slot = record slot { place = Ended }
+-- a row of a thread that has ended
+abbrev pub row_ended : Row → Row
+row_ended row = record row { place = Ended }
 
 -- a new thread has the next id
 abbrev pub with_fresh : ℕ → ℕ → ℕ → ℕ → Stored → Stored

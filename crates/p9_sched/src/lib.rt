@@ -9,9 +9,9 @@ mod entries;
 mod lane;
 mod lanes;
 mod line;
+mod row;
+mod rows;
 mod sched;
-mod slot;
-mod slots;
 mod table;
 mod turns;
 

@@ -112,7 +112,7 @@ impl Sched {
         ensures place { IsPlace (proc_of (by_id self.old.threads t)) self.old }
         ensures stands { Tracks (state_readied t answer) self.old self.new }
     {
-        let p = self.table.slot(t).proc_no;
+        let p = self.table.row(t).proc_no;
         self.table.put(t, p9_manual::Place::Ready(answer));
         self.lanes.queue(p, t);
     }
@@ -123,7 +123,7 @@ impl Sched {
         ensures waits { self.new ≡ waiting t self.old }
         ensures stands { (request : Request) → Tracks (λ s. (state_waiting t request s).state) self.old self.new }
     {
-        let p = self.table.slot(t).proc_no;
+        let p = self.table.row(t).proc_no;
         self.table.put(t, p9_manual::Place::Waiting);
         self.lanes.stop(p, t);
     }
@@ -135,7 +135,7 @@ impl Sched {
         ensures place { IsPlace (proc_of (by_id self.old.threads t)) self.old }
         ensures stands { Tracks (state_ended t) self.old self.new }
     {
-        let p = self.table.slot(t).proc_no;
+        let p = self.table.row(t).proc_no;
         self.table.put(t, p9_manual::Place::Ended);
         self.lanes.leave(p, t);
     }
@@ -162,8 +162,8 @@ impl Sched {
         match self.table.replace(t, p9_manual::Place::Running) {
             p9_manual::Place::Ready(answer) => Some(Ready::Old(t, answer)),
             _ => {
-                let slot = self.table.slot(t);
-                Some(Ready::New(t, slot.program, slot.arg))
+                let row = self.table.row(t);
+                Some(Ready::New(t, row.program, row.arg))
             }
         }
     }
@@ -175,7 +175,7 @@ impl Sched {
         ensures { option_copied result ≡ answer_next p self.now }
     {
         let t = self.lanes.first(p)?;
-        match &self.table.slot(t).place {
+        match &self.table.row(t).place {
             p9_manual::Place::Ready(answer) => Some(answer),
             _ => None,
         }
@@ -193,7 +193,7 @@ impl Sched {
         requires { IsMade t self.now }
         ensures { result ≡ place_of (by_id self.now.threads t) }
     {
-        match &self.table.slot(t).place {
+        match &self.table.row(t).place {
             p9_manual::Place::Running => Place::Running,
             p9_manual::Place::New | p9_manual::Place::Ready(_) => Place::Ready,
             p9_manual::Place::Waiting => Place::Waiting,
@@ -207,7 +207,7 @@ impl Sched {
         ensures proc { result ≡ proc_of (by_id self.now.threads t) }
         ensures place { IsPlace result self.now }
     {
-        self.table.slot(t).proc_no
+        self.table.row(t).proc_no
     }
 
     /// The thread that runs in a proc, or `None` where none runs there.
@@ -319,7 +319,7 @@ impl Sched {
         requires { IsMade t self.now }
         ensures { result ≡ word_of (by_id self.now.threads t) }
     {
-        self.table.slot(t).word
+        self.table.row(t).word
     }
 
     /// Sets the word of a thread.

@@ -3,11 +3,11 @@ ghost use Rattle.p9_manual.specs.State.{by_id, changed, placed};
 ghost use Rattle.p9_manual.specs.Ends.{at_end};
 ghost use Rattle.p9_manual.specs.Threads.{in_group, with_name, with_word};
 ghost use Rattle.p9_sched.specs.Schedule.{all_rooms, no_rooms, group_of, name_of};
-ghost use Rattle.p9_sched.specs.Stored.{HasId, slot_of, with_fresh};
+ghost use Rattle.p9_sched.specs.Stored.{HasId, row_of, with_fresh};
 
 use crate::entries::{note_group, put_group, put_name};
-use crate::slot::Slot;
-use crate::slots::end_each;
+use crate::row::Row;
+use crate::rows::end_each;
 use indexmap::IndexMap;
 use p9_manual::Place;
 use p9_word::{Msg, NoMemory, Tid};
@@ -20,7 +20,7 @@ use std::mem;
 /// Contracts see the threads, and which memory that a reserve took is there still.
 #[derive(Drop)]
 pub(crate) struct Table {
-    slots: Vec<Slot>,
+    rows: Vec<Row>,
     groups: IndexMap<Tid, u32>,
     names: IndexMap<Tid, Msg>,
     thread_room: bool,
@@ -46,7 +46,7 @@ impl Table {
         ensures { result ≡ record { threads = []; rooms = no_rooms } }
     {
         Table {
-            slots: Vec::new(alloc),
+            rows: Vec::new(alloc),
             groups: IndexMap::new(alloc),
             names: IndexMap::new(alloc),
             thread_room: false,
@@ -61,7 +61,7 @@ impl Table {
         ensures ok { OnOk result (self.new ≡ record self.old { rooms = all_rooms }) }
         ensures err { OnErr result (self.new ≡ self.old) }
     {
-        self.slots.reserve(1)?;
+        self.rows.reserve(1)?;
         self.groups.reserve(2)?;
         self.names.reserve(1)?;
         self.thread_room = true;
@@ -81,7 +81,7 @@ impl Table {
     pub fn len(&self) -> usize
         ensures { result ≡ length self.now.threads }
     {
-        self.slots.len()
+        self.rows.len()
     }
 
     /// Makes a thread of a proc, and gives its id.
@@ -91,9 +91,9 @@ impl Table {
         ensures id { result ≡ length self.old.threads + 1 }
         ensures table { self.new ≡ with_fresh p program arg group self.old }
     {
-        let t = self.slots.len() as u32 + 1;
+        let t = self.rows.len() as u32 + 1;
         note_group(&mut self.groups, t, group);
-        self.slots.push_reserved(Slot {
+        self.rows.push_reserved(Row {
             proc_no: p,
             program,
             arg,
@@ -105,11 +105,11 @@ impl Table {
     }
 
     /// What is kept of a thread, but for its group and name.
-    pub fn slot(&self, t: Tid) -> &Slot
+    pub fn row(&self, t: Tid) -> &Row
         requires { HasId t self.now.threads }
-        ensures { option_map slot_of (by_id self.now.threads t) ≡ Some result.now }
+        ensures { option_map row_of (by_id self.now.threads t) ≡ Some result.now }
     {
-        &self.slots[t as usize - 1]
+        &self.rows[t as usize - 1]
     }
 
     /// Puts a thread at another place.
@@ -126,15 +126,15 @@ impl Table {
         ensures was { option_map (λ x. x.place) (by_id self.old.threads t) ≡ Some result }
         ensures table { self.new ≡ record self.old { threads = placed t place self.old.threads } }
     {
-        let slot = &mut self.slots[t as usize - 1];
-        mem::replace(&mut slot.place, place)
+        let row = &mut self.rows[t as usize - 1];
+        mem::replace(&mut row.place, place)
     }
 
     /// All threads have ended.
     pub fn end_all(&mut self)
         ensures { self.new ≡ record self.old { threads = map at_end self.old.threads } }
     {
-        end_each(&mut self.slots);
+        end_each(&mut self.rows);
     }
 
     /// The group of a thread.
@@ -190,7 +190,7 @@ impl Table {
         requires { HasId t self.old.threads }
         ensures { self.new ≡ record self.old { threads = changed (with_word word) self.old.threads (t - 1) } }
     {
-        let slot = &mut self.slots[t as usize - 1];
-        slot.word = word;
+        let row = &mut self.rows[t as usize - 1];
+        row.word = word;
     }
 }

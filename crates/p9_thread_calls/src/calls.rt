@@ -9,7 +9,7 @@ ghost use Rattle.p9_thread_calls.specs.Serves.{ServesAll, ServesRequest, ends_th
 use crate::create::{create_proc, create_thread};
 use crate::spares::Spare;
 use crate::values::{
-    give_way, join_group, take_name, take_proc_word, take_word, tell_group, tell_id, tell_name,
+    give_way, join_group, set_name, set_proc_word, set_word, tell_group, tell_id, tell_name,
     tell_proc, tell_proc_word, tell_word,
 };
 use p9_sched::{Place, Sched};
@@ -33,12 +33,12 @@ fn asked(sched: &mut Sched, setup: &Setup, t: Tid, request: ThreadReq, spare: Sp
         ThreadReq::ThreadPid { tid } => tell_proc(sched, t, tid),
         ThreadReq::ThreadGetGrp => tell_group(sched, t),
         ThreadReq::ThreadSetGrp { group } => join_group(sched, t, group),
-        ThreadReq::ThreadSetName { name } => take_name(sched, t, name),
+        ThreadReq::ThreadSetName { name } => set_name(sched, t, name),
         ThreadReq::ThreadGetName => tell_name(sched, t, spare),
         ThreadReq::ThreadWord => tell_word(sched, t),
-        ThreadReq::ThreadSetWord { word } => take_word(sched, t, word),
+        ThreadReq::ThreadSetWord { word } => set_word(sched, t, word),
         ThreadReq::ProcWord => tell_proc_word(sched, t),
-        ThreadReq::ProcSetWord { word } => take_proc_word(sched, t, word),
+        ThreadReq::ProcSetWord { word } => set_proc_word(sched, t, word),
     }
 }
 

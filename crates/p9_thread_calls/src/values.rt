@@ -77,7 +77,7 @@ fn is_no_name(name: &Msg) -> bool
 }
 
 /// Gives the caller a name.
-pub(crate) fn take_name(sched: &mut Sched, t: Tid, name: Msg) -> Reply
+pub(crate) fn set_name(sched: &mut Sched, t: Tid, name: Msg) -> Reply
     requires made { IsMade t sched.old }
     requires room { sched.old.rooms.name ≡ true }
     ensures serves { (setup : Setup) → ServesRequest setup t (ask.ThreadSetName name) sched.old result sched.new }
@@ -114,7 +114,7 @@ pub(crate) fn tell_word(sched: &Sched, t: Tid) -> Reply
 }
 
 /// Sets the caller's word.
-pub(crate) fn take_word(sched: &mut Sched, t: Tid, word: u64) -> Reply
+pub(crate) fn set_word(sched: &mut Sched, t: Tid, word: u64) -> Reply
     requires { IsMade t sched.old }
     ensures serves { (setup : Setup) → ServesRequest setup t (ask.ThreadSetWord word) sched.old result sched.new }
     ensures bare { IsBare result }
@@ -133,7 +133,7 @@ pub(crate) fn tell_proc_word(sched: &Sched, t: Tid) -> Reply
 }
 
 /// Sets the word of the caller's proc.
-pub(crate) fn take_proc_word(sched: &mut Sched, t: Tid, word: u64) -> Reply
+pub(crate) fn set_proc_word(sched: &mut Sched, t: Tid, word: u64) -> Reply
     requires { IsMade t sched.old }
     ensures serves { (setup : Setup) → ServesRequest setup t (ask.ProcSetWord word) sched.old result sched.new }
     ensures bare { IsBare result }

@@ -25,13 +25,13 @@ pub enum Answer {
     Done,
     /// The value was sent.
     Sent,
-    /// A value was received, which the call at this place of the trail sent.
+    /// A value was received, which the call at this position of the trail sent.
     Got {
         from: u64,
         msg: Msg,
     },
     /// The entry of an alt that went on, counted from 0; `err` says that its channel is closed. Where it
-    /// received a value: the place of the call that sent it, and its bytes if they are kept; else `None`
+    /// received a value: the position of the call that sent it, and its bytes if they are kept; else `None`
     /// and no bytes.
     Index {
         err: bool,

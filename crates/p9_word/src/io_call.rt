@@ -1,7 +1,7 @@
 use crate::{Datum, Msg, NoMemory};
 use std::alloc::Global;
 
-/// A call on a file that a thread makes through an ioproc, a proc that waits in its place. ioproc(2).
+/// A call on a file that a thread makes through an ioproc, a proc that waits instead of it. ioproc(2).
 #[derive(Drop)]
 pub enum IoCall {
     /// Opens the file.

@@ -62,7 +62,7 @@ pub struct Entry {
     pub reply: Reply,
 }
 
-/// All that happened in a run, in order. The place of an entry is its number, counted from 0.
+/// All that happened in a run, in order. The position of an entry is its number, counted from 0.
 #[derive(Drop)]
 pub struct Trail {
     /// The procs asked for, or 0 for those of the text.

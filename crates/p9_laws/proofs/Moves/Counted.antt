@@ -1,4 +1,4 @@
--- How often a place occurs among the moves, the elements and the threads that wait: at most once, and not yet from n on.
+-- How often a position occurs among the moves, the elements and the threads that wait: at most once, and not yet from n on.
 use Rattle.std.proofs.Common.{◌≡◌, ℕ, zero, suc, ◌+◌, ◌-◌, ◌≤◌, Bool, true, false, not, cond, eqb, List, [], ◌∷◌, ◌++◌, Some, refl, arith, rules, tests}
 use Rattle.std.specs.Prelude.{slice_get}
 use Rattle.std.specs.List.{filter, find}
@@ -12,7 +12,7 @@ use Rattle.p9_manual.specs.Standing.{times}
 use Rattle.p9_laws.proofs.Sound.Counts.{times-append, times_parts}
 use Rattle.p9_laws.proofs.Sound.Places.{get_from_by_id}
 
--- f counts each place at most once, and none from n on
+-- f counts each position at most once, and none from n on
 pub record OnceBelow (n : ℕ) (f : ℕ → ℕ) : Type 0 where
   pub once : (p : ℕ) → f p ≤ 1
   pub none_yet : (p : ℕ) → n ≤ p → f p ≡ 0
@@ -35,7 +35,7 @@ past_step : (n p f g : ℕ) (b : Bool) → eqb n p ≡ b → n + 1 ≤ p → (n 
 past_step n p f g true e past none h = let same : n ≡ p = search (rules, tests) in absurd (omega arith)
 past_step n p f g false e past none h = let z = none (omega arith) in omega arith
 
--- place n is counted once more
+-- position n is counted once more
 pub once_more : (n : ℕ) (f g : ℕ → ℕ) → ((p : ℕ) → g p ≤ f p + cond (eqb n p) 1 0) → OnceBelow n f → OnceBelow (n + 1) g
 once_more n f g le o =
     record {
@@ -43,7 +43,7 @@ once_more n f g le o =
       none_yet = λ p h. past_step n p (f p) (g p) (eqb n p) refl h (o.none_yet p) (le p);
     }
 
--- how often place p is one that a value moved from, one that an element came from, or one of a thread that waits
+-- how often position p is one that a value moved from, one that an element came from, or one of a thread that waits
 abbrev pub times_seen : List Move → List Channel → List Party → ℕ → ℕ
 times_seen ms chans waits p = times_moved p ms + times (λ (e : Element). eqb e.from p) (elements_of chans) + times (λ (w : Party). eqb w.at p) waits
 

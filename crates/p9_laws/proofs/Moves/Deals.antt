@@ -9,8 +9,8 @@ use Rattle.p9_word.specs.declared.trail.Entry.{Entry}
 use Rattle.p9_manual.specs.declared.state.Channel.{Channel}
 use Rattle.p9_manual.specs.declared.state.Element.{Element}
 use Rattle.p9_manual.specs.declared.state.Party.{Party}
-use Rattle.p9_manual.specs.Entries.{sends_to, sends_on, receives_on}
-use Rattle.p9_manual.specs.Ready.{is_unbuffered}
+use Rattle.p9_manual.specs.AltEntries.{sends_to, sends_on, receives_on}
+use Rattle.p9_manual.specs.ReadyEntries.{is_unbuffered}
 use Rattle.p9_manual.specs.Commit.{Deal, element, holding, with_elements, failed, hand_over, pass_on, commit_send, take_over, refilled, sender_woken, receive_from}
 use Rattle.p9_manual.specs.Told.{sent_bytes, sender_bytes}
 use Rattle.p9_manual.specs.Alt.{parties_without}
@@ -42,7 +42,7 @@ found_holds P p w (x ∷ xs) h e = found_step P (p x) x w (find p xs) (All-head 
 sender_sent : (H : List Entry) (c elsize : ℕ) (w : Party) → IsAsked H w → sends_on c w ≡ true → IsSendOf c elsize (sender_bytes c elsize w) (slice_get H w.at)
 sender_sent H c elsize w asked sends =
     let f = first_entry (sends_to c) w.entries sends in
-    sent_from c elsize (sender_bytes c elsize w) w.entries (slice_get H w.at) f.place f.entry asked f.there (f.passes, ap (sent_bytes elsize) (sym f.slot))
+    sent_from c elsize (sender_bytes c elsize w) w.entries (slice_get H w.at) f.index f.entry asked f.there (f.passes, ap (sent_bytes elsize) (sym f.slot))
 
 -- the only element, which has just come, leaves
 only_leaves : (H : List Entry) (n : ℕ) (ms : List Move) (chans : List Channel) (waits : List Party) (c : ℕ) (chan : Channel) (x : Element) (to : ℕ) → by_id chans c ≡ Some chan → chan.elements ≡ [] → Kept H n ms (with_elements c (chan.elements ++ x ∷ []) chans) waits → Kept H n (ms ++ record { chan = c; from = x.from; to = to; bytes = x.msg } ∷ []) chans waits

@@ -8,7 +8,7 @@ use Rattle.p9_word.specs.declared.trail.Entry.{Entry}
 use Rattle.p9_manual.specs.declared.state.Channel.{Channel}
 use Rattle.p9_manual.specs.declared.state.Element.{Element}
 use Rattle.p9_manual.specs.declared.state.Party.{Party}
-use Rattle.p9_manual.specs.Entries.{sends_on}
+use Rattle.p9_manual.specs.AltEntries.{sends_on}
 use Rattle.p9_manual.specs.Commit.{holding, with_elements}
 use Rattle.p9_laws.specs.Senders.{IsSendOf}
 use Rattle.p9_manual.specs.State.{Move, by_id, changed}
@@ -18,14 +18,14 @@ use Rattle.p9_laws.proofs.Sound.Places.{by_id-changed_same, get_from_by_id}
 use Rattle.p9_laws.proofs.Moves.Rising.{Rises, rises_later, rises_less, rises_put, rises_take}
 use Rattle.p9_laws.proofs.Moves.Counted.{once_less, once_more, times_seen, times_holding, times_found}
 use Rattle.p9_laws.proofs.Moves.Senders.{filters_swap, found_first, not_of, is_itself}
-use Rattle.p9_laws.proofs.Moves.Kept.{Kept, HeldRightly, MovedRightly, IsAsked, moved_places, front, each_channel, sized_changed, moved_later}
+use Rattle.p9_laws.proofs.Moves.Kept.{Kept, HeldRightly, MovedRightly, IsAsked, moved_positions, front, each_channel, sized_changed, moved_later}
 
-places_push : (x : Element) → (xs : List Element) → map (λ (e : Element). e.from) (xs ++ x ∷ []) ≡ map (λ (e : Element). e.from) xs ++ x.from ∷ []
-places_push x [] = refl
-places_push x (y ∷ ys) = rw (places_push x ys) refl
+positions_push : (x : Element) → (xs : List Element) → map (λ (e : Element). e.from) (xs ++ x ∷ []) ≡ map (λ (e : Element). e.from) xs ++ x.from ∷ []
+positions_push x [] = refl
+positions_push x (y ∷ ys) = rw (positions_push x ys) refl
 
 front_push : (c : ℕ) (ms : List Move) (chan : Channel) (x : Element) → front c ms (Some (holding (chan.elements ++ x ∷ []) chan)) ≡ front c ms (Some chan) ++ x.from ∷ []
-front_push c ms chan x = rw (places_push x chan.elements, append_assoc) refl
+front_push c ms chan x = rw (positions_push x chan.elements, append_assoc) refl
 
 rises_at : (H : List Entry) (n : ℕ) (ms : List Move) (chans : List Channel) (waits : List Party) (c : ℕ) (chan : Channel) → by_id chans c ≡ Some chan → Kept H n ms chans waits → Rises n (front c ms (Some chan)) (filter (sends_on c) waits)
 rises_at H n ms chans waits c chan at k = subst (λ (o : Option Channel). Rises n (front c ms o) (filter (sends_on c) waits)) at (k.rises c)
@@ -86,7 +86,7 @@ kept_refill H n ms chans waits c chan w x at found from sent k =
       asked = All-filter (not_of w.tid) (IsAsked H) waits k.asked;
     }
 
-moved_more : (c : ℕ) (ms : List Move) (m : Move) (b : Bool) → eqb m.chan c ≡ b → moved_places c (ms ++ m ∷ []) ≡ moved_places c ms ++ cond b (m.from ∷ []) []
+moved_more : (c : ℕ) (ms : List Move) (m : Move) (b : Bool) → eqb m.chan c ≡ b → moved_positions c (ms ++ m ∷ []) ≡ moved_positions c ms ++ cond b (m.from ∷ []) []
 moved_more c [] m true e = rw e refl
 moved_more c [] m false e = rw e refl
 moved_more c (x ∷ ms) m b e = step (eqb x.chan c) x.from (filter (λ y. eqb y.chan c) ms) (filter (λ y. eqb y.chan c) (ms ++ m ∷ [])) x (moved_more c ms m b e)

@@ -1,5 +1,5 @@
--- What a history keeps of the values that moved, of the elements and of the threads that wait: their places rise on each
--- channel, each occurs once, and each value was sent by the call at its place.
+-- What a history keeps of the values that moved, of the elements and of the threads that wait: their positions rise on each
+-- channel, each occurs once, and each value was sent by the call at its position.
 use Rattle.std.proofs.Common.{◌≡◌, ◌≢◌, inl, inr, ℕ, ◌+◌, ◌-◌, Bool, true, false, cond, eqb, List, [], ◌∷◌, ◌++◌, map, length, Option, Some, None, refl, ap, subst, sym, ◌∙◌, arith}
 use Rattle.std.specs.Prelude.{slice_get, All}
 use Rattle.std.specs.List.{filter}
@@ -10,7 +10,7 @@ use Rattle.p9_word.specs.declared.trail.Entry.{Entry}
 use Rattle.p9_manual.specs.declared.state.Channel.{Channel}
 use Rattle.p9_manual.specs.declared.state.Element.{Element}
 use Rattle.p9_manual.specs.declared.state.Party.{Party}
-use Rattle.p9_manual.specs.Entries.{sends_on}
+use Rattle.p9_manual.specs.AltEntries.{sends_on}
 use Rattle.p9_laws.specs.Senders.{IsSendOf}
 use Rattle.p9_manual.specs.State.{Move, by_id, changed}
 use Rattle.p9_laws.proofs.Sound.Counts.{times-push}
@@ -20,16 +20,16 @@ use Rattle.p9_laws.proofs.Moves.Counted.{OnceBelow, once_later, once_less, once_
 use Rattle.p9_laws.proofs.Moves.Senders.{filters_swap}
 use Rattle.p9_laws.proofs.Moves.Sent.{Asks, asks_later, sent_later}
 
--- the places that the values which left channel c came from, and those of its elements
-abbrev pub moved_places : ℕ → List Move → List ℕ
-moved_places c ms = map (λ m. m.from) (filter (λ m. eqb m.chan c) ms)
+-- the positions that the values which left channel c came from, and those of its elements
+abbrev pub moved_positions : ℕ → List Move → List ℕ
+moved_positions c ms = map (λ m. m.from) (filter (λ m. eqb m.chan c) ms)
 
-abbrev pub held_places : Option Channel → List ℕ
-held_places None = []
-held_places (Some chan) = map (λ e. e.from) chan.elements
+abbrev pub held_positions : Option Channel → List ℕ
+held_positions None = []
+held_positions (Some chan) = map (λ e. e.from) chan.elements
 
 abbrev pub front : ℕ → List Move → Option Channel → List ℕ
-front c ms o = moved_places c ms ++ held_places o
+front c ms o = moved_positions c ms ++ held_positions o
 
 -- a value that moved was sent on a channel that there is
 pub record MovedRightly (H : List Entry) (chans : List Channel) (m : Move) : Type 0 where
@@ -46,7 +46,7 @@ HeldRightly H c (Some chan) = All (λ (e : Element). IsSendOf c chan.elsize e.ms
 abbrev pub IsAsked : List Entry → Party → Type 0
 IsAsked H w = Asks w.entries (slice_get H w.at)
 
--- after a history H, whose places are below n
+-- after a history H, whose positions are below n
 pub record Kept (H : List Entry) (n : ℕ) (ms : List Move) (chans : List Channel) (waits : List Party) : Type 0 where
   pub rises : (c : ℕ) → Rises n (front c ms (by_id chans c)) (filter (sends_on c) waits)
   pub once : OnceBelow n (times_seen ms chans waits)

@@ -19,7 +19,7 @@ use Rattle.p9_word.specs.declared.trail.Reply.TheVariants.{Stray}
 use Rattle.p9_manual.specs.declared.state.Ioproc.{Ioproc}
 use Rattle.p9_manual.specs.declared.state.Ioproc.TheVariants.{Unmade, Idle, Posted, Begun, Closed}
 use Rattle.p9_manual.specs.Offers.{Alternation, alternation, alternation_of}
-use Rattle.p9_manual.specs.Ready.{fits as fits_all}
+use Rattle.p9_manual.specs.ReadyEntries.{fits as fits_all}
 use Rattle.p9_manual.specs.Alt.{Verdict, AllClosed, Commits, NoneReady, MustWait, verdict_of, with_draw, decided}
 use Rattle.p9_manual.specs.Chans.{on_channel, by_alternation, chan_call}
 use Rattle.p9_manual.specs.Effects.{fits, message_length}

@@ -98,7 +98,7 @@ make_leaves k s None = λ H n ms h. h
 
 post_call_leaves : (t k : ℕ) (call : IoCall) (s : State) (o : Option Ioproc) → Leaves s (post_call t k call s o).state
 post_call_leaves t k call s (Some Idle) =
-    if_leaves s (nat_lt 4294967295 (message_length call)) _ _ (λ H n ms h. h) (λ H n ms h. rw (calling_leaves t k s.entries call s.waits) h)
+    if_leaves s (nat_lt 4294967295 (message_length call)) _ _ (λ H n ms h. h) (λ H n ms h. rw (calling_leaves t k s.position call s.waits) h)
 post_call_leaves t k call s (Some Unmade) = λ H n ms h. h
 post_call_leaves t k call s (Some (Posted u other)) = λ H n ms h. h
 post_call_leaves t k call s (Some (Begun u other)) = λ H n ms h. h

@@ -43,7 +43,7 @@ rising_left (n ∷ ns) ms h = (All_left (λ m. n + 1 ≤ m) ns ms h.0, rising_le
 abbrev pub ats : List Party → List ℕ
 ats senders = map (λ w. w.at) senders
 
--- what is known of a channel: the places that its values came from, and then those of the threads that wait to send there,
+-- what is known of a channel: the positions that its values came from, and then those of the threads that wait to send there,
 -- rise, and each is below n
 pub record Rises (n : ℕ) (front : List ℕ) (senders : List Party) : Type 0 where
   pub rising : IsRising (front ++ ats senders)
@@ -66,7 +66,7 @@ rises_less q n front senders r =
 all_push : (n : ℕ) (ns : List ℕ) → All (λ m. m + 1 ≤ n) ns → All (λ m. m + 1 ≤ n + 1) (ns ++ n ∷ [])
 all_push n ns h = All-push (λ m. m + 1 ≤ n + 1) ns n (below_later n ns h) (omega arith)
 
--- a value from place n comes last, where nobody waits to send
+-- a value from position n comes last, where nobody waits to send
 pub rises_put : (n : ℕ) (front : List ℕ) → Rises n front [] → Rises (n + 1) (front ++ n ∷ []) []
 rises_put n front r =
     let rising : IsRising front = subst IsRising (append-nil front) r.rising in

@@ -4,7 +4,7 @@ use Rattle.std.specs.Prelude.{slice_get}
 use Rattle.std.specs.List.{filter, find, list_any}
 use Rattle.p9_word.specs.declared.alt.AltEntry.{AltEntry}
 use Rattle.p9_manual.specs.declared.state.Party.{Party}
-use Rattle.p9_manual.specs.Entries.{sends_on, receives_on, waits_on, first_slot, first_number}
+use Rattle.p9_manual.specs.AltEntries.{sends_on, receives_on, waits_on, first_slot, first_number}
 use Rattle.p9_manual.specs.Standing.{times}
 use Rattle.p9_laws.proofs.Sound.Counts.{times_fewer, found_counts}
 use Rattle.p9_laws.proofs.Sound.Entries.{waits_either}
@@ -84,17 +84,17 @@ senders_gone c w waits (inr (inr one)) e =
 -- the first entry that passes
 pub record FirstEntry (p : AltEntry → Bool) (entries : List AltEntry) : Type 0 where
   pub entry : AltEntry
-  pub place : ℕ
-  pub there : slice_get entries place ≡ Some entry
+  pub index : ℕ
+  pub there : slice_get entries index ≡ Some entry
   pub passes : p entry ≡ true
   pub slot : first_slot p entries ≡ entry.slot
-  pub number : first_number p entries ≡ place
+  pub number : first_number p entries ≡ index
 
 entry_step : (p : AltEntry → Bool) (b : Bool) (x : AltEntry) (xs : List AltEntry) → p x ≡ b → (list_any p xs ≡ true → FirstEntry p xs) → (b || list_any p xs) ≡ true → FirstEntry p (x ∷ xs)
-entry_step p true x xs e later h = record { entry = x; place = 0; there = refl; passes = e; slot = rw e refl; number = rw e refl }
+entry_step p true x xs e later h = record { entry = x; index = 0; there = refl; passes = e; slot = rw e refl; number = rw e refl }
 entry_step p false x xs e later h =
     let f = later h in
-    record { entry = f.entry; place = suc f.place; there = f.there; passes = f.passes; slot = rw e f.slot; number = rw e (ap suc f.number) }
+    record { entry = f.entry; index = suc f.index; there = f.there; passes = f.passes; slot = rw e f.slot; number = rw e (ap suc f.number) }
 
 pub first_entry : (p : AltEntry → Bool) → (entries : List AltEntry) → list_any p entries ≡ true → FirstEntry p entries
 first_entry p [] h = cc

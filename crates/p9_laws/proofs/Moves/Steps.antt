@@ -15,7 +15,7 @@ use Rattle.p9_word.specs.declared.trail.Reply.TheVariants.{Stray, Waits}
 use Rattle.p9_word.specs.declared.trail.Seat.{Seat}
 use Rattle.p9_word.specs.declared.trail.Seat.TheVariants.{Proc, Io as IoSeat}
 use Rattle.p9_manual.specs.Offers.{Alternation, alternation, alternation_of, parties}
-use Rattle.p9_manual.specs.Ready.{fits}
+use Rattle.p9_manual.specs.ReadyEntries.{fits}
 use Rattle.p9_manual.specs.Alt.{Verdict, AllClosed, Commits, NoneReady, MustWait, decided, verdict_of, with_draw, alt}
 use Rattle.p9_manual.specs.Places.{runs_there}
 use Rattle.p9_laws.specs.Senders.{entries_in}
@@ -50,16 +50,16 @@ alt_waits : (setup : Setup) (t : ℕ) (request : Request) (a : Alternation) (s :
 alt_waits setup t request a s f = rw f (decided_waits t request (with_draw a.entries s) (verdict_of setup t a s))
 
 -- no value leaves a channel
-nothing_moves : (H : List Entry) (ms : List Move) (s later : State) → Leaves s later → KeptIn H s.entries ms s → KeptIn H (s.entries + 1) (ms ++ []) later
-nothing_moves H ms s later leaves k = rw append-nil (leaves H (s.entries + 1) ms (kept_later H s.entries ms s.chans (parties s.waits) k))
+nothing_moves : (H : List Entry) (ms : List Move) (s later : State) → Leaves s later → KeptIn H s.position ms s → KeptIn H (s.position + 1) (ms ++ []) later
+nothing_moves H ms s later leaves k = rw append-nil (leaves H (s.position + 1) ms (kept_later H s.position ms s.chans (parties s.waits) k))
 
-by_alternation_kept : (setup : Setup) (H : List Entry) (ms : List Move) (seat : Seat) (t : ℕ) (r : ChanReq) (s : State) (o : Option Alternation) → alternation r ≡ o → slice_get H s.entries ≡ Some (record { seat = seat; event = Call t (ChanRequest r); reply = (by_alternation setup t r s o).reply }) → IsSound setup s → KeptIn H s.entries ms s → KeptIn H (s.entries + 1) (ms ++ moved_in setup t s o) (by_alternation setup t r s o).state
+by_alternation_kept : (setup : Setup) (H : List Entry) (ms : List Move) (seat : Seat) (t : ℕ) (r : ChanReq) (s : State) (o : Option Alternation) → alternation r ≡ o → slice_get H s.position ≡ Some (record { seat = seat; event = Call t (ChanRequest r); reply = (by_alternation setup t r s o).reply }) → IsSound setup s → KeptIn H s.position ms s → KeptIn H (s.position + 1) (ms ++ moved_in setup t s o) (by_alternation setup t r s o).state
 by_alternation_kept setup H ms seat t r s None is here sound k = nothing_moves H ms s (on_channel r s).state (on_channel_leaves r s) k
 by_alternation_kept setup H ms seat t r s (Some a) is here sound k =
     alt_kept H ms setup t (ChanRequest r) a s is
-    (λ f. asks_here H s.entries seat t (ChanRequest r) _ a here (alt_waits setup t (ChanRequest r) a s f) is) sound.waits_right sound.within k
+    (λ f. asks_here H s.position seat t (ChanRequest r) _ a here (alt_waits setup t (ChanRequest r) a s f) is) sound.waits_right sound.within k
 
-served_kept : (setup : Setup) (H : List Entry) (ms : List Move) (seat : Seat) (t : ℕ) (r : Request) (s : State) → slice_get H s.entries ≡ Some (record { seat = seat; event = Call t r; reply = (served setup t r s).reply }) → IsSound setup s → KeptIn H s.entries ms s → KeptIn H (s.entries + 1) (ms ++ moved_in setup t s (alternation_of r)) (served setup t r s).state
+served_kept : (setup : Setup) (H : List Entry) (ms : List Move) (seat : Seat) (t : ℕ) (r : Request) (s : State) → slice_get H s.position ≡ Some (record { seat = seat; event = Call t r; reply = (served setup t r s).reply }) → IsSound setup s → KeptIn H s.position ms s → KeptIn H (s.position + 1) (ms ++ moved_in setup t s (alternation_of r)) (served setup t r s).state
 unfolding served chan_call
 served_kept setup H ms seat t (ThreadRequest r) s here sound k = nothing_moves H ms s (thread_call setup t r s).state (thread_call_leaves setup t r s) k
 served_kept setup H ms seat t (ChanRequest r) s here sound k = by_alternation_kept setup H ms seat t r s (alternation r) refl here sound k
@@ -69,14 +69,14 @@ served_kept setup H ms seat t (IoRequest r) s here sound k = nothing_moves H ms 
 abbrev pub IsHere : List Entry → ℕ → Seat → Event → Outcome → Type 0
 IsHere H at seat event o = slice_get H at ≡ Some (record { seat = seat; event = event; reply = o.reply })
 
-if_runs : (H : List Entry) (ms moved : List Move) (seat : Seat) (event : Event) (s : State) (b : Bool) (o p : Outcome) → IsHere H s.entries seat event (cond b o p) → (IsHere H s.entries seat event o → KeptIn H (s.entries + 1) (ms ++ moved) o.state) → KeptIn H (s.entries + 1) (ms ++ []) p.state → KeptIn H (s.entries + 1) (ms ++ cond b moved []) (cond b o p).state
+if_runs : (H : List Entry) (ms moved : List Move) (seat : Seat) (event : Event) (s : State) (b : Bool) (o p : Outcome) → IsHere H s.position seat event (cond b o p) → (IsHere H s.position seat event o → KeptIn H (s.position + 1) (ms ++ moved) o.state) → KeptIn H (s.position + 1) (ms ++ []) p.state → KeptIn H (s.position + 1) (ms ++ cond b moved []) (cond b o p).state
 if_runs H ms moved seat event s true o p here f g = f here
 if_runs H ms moved seat event s false o p here f g = g
 
-stays : (H : List Entry) (ms : List Move) (s : State) → KeptIn H s.entries ms s → KeptIn H (s.entries + 1) (ms ++ []) s
+stays : (H : List Entry) (ms : List Move) (s : State) → KeptIn H s.position ms s → KeptIn H (s.position + 1) (ms ++ []) s
 stays H ms s k = nothing_moves H ms s s (λ H n ms h. h) k
 
-outcome_kept : (setup : Setup) (H : List Entry) (ms : List Move) (seat : Seat) (event : Event) (s : State) → IsHere H s.entries seat event (outcome setup seat event s) → IsSound setup s → KeptIn H s.entries ms s → KeptIn H (s.entries + 1) (ms ++ moved_at setup seat event s) (outcome setup seat event s).state
+outcome_kept : (setup : Setup) (H : List Entry) (ms : List Move) (seat : Seat) (event : Event) (s : State) → IsHere H s.position seat event (outcome setup seat event s) → IsSound setup s → KeptIn H s.position ms s → KeptIn H (s.position + 1) (ms ++ moved_at setup seat event s) (outcome setup seat event s).state
 unfolding outcome called
 outcome_kept setup H ms (Proc p) (Call t r) s here sound k =
     if_runs H ms (moved_in setup t s (alternation_of r)) (Proc p) (Call t r) s (runs_there p (by_id s.threads t)) (served setup t r s) (same Stray s) here
@@ -91,15 +91,15 @@ outcome_kept setup H ms (IoSeat q) Next s here sound k = stays H ms s k
 
 -- a state after a history, with the values that moved
 pub record Follows (H : List Entry) (ms : List Move) (s : State) : Type 0 where
-  pub counted : s.entries ≡ length H
-  pub kept : KeptIn H s.entries ms s
+  pub counted : s.position ≡ length H
+  pub kept : KeptIn H s.position ms s
 
 pub last_of : {A : Type 0} (y : A) → (xs : List A) → slice_get (xs ++ y ∷ []) (length xs) ≡ Some y
 last_of y [] = refl
 last_of y (x ∷ xs) = last_of y xs
 
-more_entries : (s : State) (o : Outcome) → makes_entry o.reply ≡ true → (counted s o).state.entries ≡ s.entries + 1
-more_entries s o h = rw h refl
+next_position : (s : State) (o : Outcome) → makes_entry o.reply ≡ true → (counted s o).state.position ≡ s.position + 1
+next_position s o h = rw h refl
 
 counted_kept : (H : List Entry) (n : ℕ) (ms : List Move) (s : State) (o : Outcome) → makes_entry o.reply ≡ true → KeptIn H n ms o.state → KeptIn H n ms (counted s o).state
 counted_kept H n ms s o h k = rw h k
@@ -113,10 +113,10 @@ pub step_follows : (setup : Setup) (H : List Entry) (ms : List Move) (s : State)
 unfolding step
 step_follows setup H ms s e sound told made f =
     let makes = subst (λ (r : Reply). makes_entry r ≡ true) told made in
-    let n : (after_entry setup s e).entries ≡ s.entries + 1 = more_entries s (outcome setup e.seat e.event s) makes in
-    let here : slice_get (H ++ e ∷ []) s.entries ≡ Some e = ap (slice_get (H ++ e ∷ [])) f.counted ∙ last_of e H in
-    let replied : IsHere (H ++ e ∷ []) s.entries e.seat e.event (outcome setup e.seat e.event s) = with_reply e _ told (slice_get (H ++ e ∷ []) s.entries) here in
-    let kept = outcome_kept setup (H ++ e ∷ []) ms e.seat e.event s replied sound (kept_longer H (e ∷ []) s.entries ms s.chans (parties s.waits) f.kept) in
+    let n : (after_entry setup s e).position ≡ s.position + 1 = next_position s (outcome setup e.seat e.event s) makes in
+    let here : slice_get (H ++ e ∷ []) s.position ≡ Some e = ap (slice_get (H ++ e ∷ [])) f.counted ∙ last_of e H in
+    let replied : IsHere (H ++ e ∷ []) s.position e.seat e.event (outcome setup e.seat e.event s) = with_reply e _ told (slice_get (H ++ e ∷ []) s.position) here in
+    let kept = outcome_kept setup (H ++ e ∷ []) ms e.seat e.event s replied sound (kept_longer H (e ∷ []) s.position ms s.chans (parties s.waits) f.kept) in
     record {
       counted = let c = f.counted in let l = length-append H (e ∷ []) in omega (arith, n, c, l);
       kept = rw n (counted_kept _ _ _ s (outcome setup e.seat e.event s) makes kept);

@@ -18,8 +18,8 @@ use Rattle.p9_manual.specs.declared.state.Element.{Element}
 use Rattle.p9_manual.specs.declared.state.Party.{Party}
 use Rattle.p9_manual.specs.declared.state.Waiter.{Waiter}
 use Rattle.p9_manual.specs.Offers.{Alternation, alternation_of, party, party_with, parties}
-use Rattle.p9_manual.specs.Entries.{sends_to, sends_on, receives_on}
-use Rattle.p9_manual.specs.Ready.{has_room, is_unbuffered, can_send, can_go_on, is_ready, ready_entries, fits}
+use Rattle.p9_manual.specs.AltEntries.{sends_to, sends_on, receives_on}
+use Rattle.p9_manual.specs.ReadyEntries.{has_room, is_unbuffered, can_send, can_go_on, is_ready, ready_entries, fits}
 use Rattle.p9_manual.specs.Commit.{commit_op, commit_entry, commit}
 use Rattle.p9_manual.specs.Told.{sent_bytes}
 use Rattle.p9_manual.specs.Alt.{Verdict, AllClosed, Commits, NoneReady, MustWait, is_closed_list, chosen, unready, verdict_on, verdict, parties_without, with_woken, decided, with_draw, verdict_of, alt}
@@ -103,20 +103,20 @@ unready_kept H ms chans waits me End = tt
 pub in_list : (w n : ℕ) → w % suc (suc n) < suc (suc n)
 in_list w n = omega arith
 
-on_kept : (H : List Entry) (ms : List Move) (chans : List Channel) (waits : List Waiter) (me : Party) (word : ℕ) (ending : Ending) (ready : List ℕ) → Comes H ms chans waits me → All (HasPassing (is_ready chans (parties waits)) me.entries) ready → KeptBy H ms chans (parties waits) me (verdict_on word me ending chans (parties waits) ready)
-on_kept H ms chans waits me word ending [] comes h = unready_kept H ms chans (parties waits) me ending
-on_kept H ms chans waits me word ending (i ∷ []) comes h = commit_kept H ms chans waits me i comes (h 0 0 (omega arith))
-on_kept H ms chans waits me word ending (i ∷ j ∷ more) comes h =
-    commit_kept H ms chans waits me (chosen word (i ∷ j ∷ more)) comes (h (word % length (i ∷ j ∷ more)) 0 (in_list word (length more)))
+on_kept : (H : List Entry) (ms : List Move) (chans : List Channel) (waits : List Waiter) (me : Party) (draw : ℕ) (ending : Ending) (ready : List ℕ) → Comes H ms chans waits me → All (HasPassing (is_ready chans (parties waits)) me.entries) ready → KeptBy H ms chans (parties waits) me (verdict_on draw me ending chans (parties waits) ready)
+on_kept H ms chans waits me draw ending [] comes h = unready_kept H ms chans (parties waits) me ending
+on_kept H ms chans waits me draw ending (i ∷ []) comes h = commit_kept H ms chans waits me i comes (h 0 0 (omega arith))
+on_kept H ms chans waits me draw ending (i ∷ j ∷ more) comes h =
+    commit_kept H ms chans waits me (chosen draw (i ∷ j ∷ more)) comes (h (draw % length (i ∷ j ∷ more)) 0 (in_list draw (length more)))
 
 if_kept : (H : List Entry) (ms : List Move) (chans : List Channel) (waits : List Party) (me : Party) (b : Bool) (v : Verdict) → KeptBy H ms chans waits me v → KeptBy H ms chans waits me (cond b AllClosed v)
 if_kept H ms chans waits me true v h = tt
 if_kept H ms chans waits me false v h = h
 
-verdict_kept : (H : List Entry) (ms : List Move) (chans : List Channel) (waits : List Waiter) (me : Party) (word : ℕ) (ending : Ending) → Comes H ms chans waits me → KeptBy H ms chans (parties waits) me (verdict word me ending chans (parties waits))
-verdict_kept H ms chans waits me word ending comes =
+verdict_kept : (H : List Entry) (ms : List Move) (chans : List Channel) (waits : List Waiter) (me : Party) (draw : ℕ) (ending : Ending) → Comes H ms chans waits me → KeptBy H ms chans (parties waits) me (verdict draw me ending chans (parties waits))
+verdict_kept H ms chans waits me draw ending comes =
     if_kept H ms chans (parties waits) me (is_closed_list me.entries) _
-    (on_kept H ms chans waits me word ending (ready_entries chans (parties waits) me.entries) comes (ready_numbers chans (parties waits) me.entries))
+    (on_kept H ms chans waits me draw ending (ready_entries chans (parties waits) me.entries) comes (ready_numbers chans (parties waits) me.entries))
 
 -- what is kept of a state
 abbrev pub KeptIn : List Entry → ℕ → List Move → State → Type 0
@@ -130,24 +130,24 @@ asked_party : (t at : ℕ) (o : Option Alternation) (a : Alternation) → o ≡ 
 asked_party t at None a e = cc
 asked_party t at (Some b) a e = let same : b ≡ a = cc in rw same refl
 
-decided_kept : (H : List Entry) (ms : List Move) (t : ℕ) (request : Request) (a : Alternation) (s : State) (v : Verdict) → alternation_of request ≡ Some a → Asks a.entries (slice_get H s.entries) → KeptIn H s.entries ms s → KeptBy H ms s.chans (parties s.waits) (party t s.entries a) v → KeptIn H (s.entries + 1) (ms ++ moved_by v) (decided t request s v).state
-decided_kept H ms t request a s AllClosed is asks k h = rw append-nil (kept_later H s.entries ms s.chans (parties s.waits) k)
-decided_kept H ms t request a s NoneReady is asks k h = rw append-nil (kept_later H s.entries ms s.chans (parties s.waits) k)
-decided_kept H ms t request a s (Commits d) is asks k h = woken_kept H (s.entries + 1) (ms ++ cons_option d.moved []) (record s { chans = d.chans }) d.woken h
+decided_kept : (H : List Entry) (ms : List Move) (t : ℕ) (request : Request) (a : Alternation) (s : State) (v : Verdict) → alternation_of request ≡ Some a → Asks a.entries (slice_get H s.position) → KeptIn H s.position ms s → KeptBy H ms s.chans (parties s.waits) (party t s.position a) v → KeptIn H (s.position + 1) (ms ++ moved_by v) (decided t request s v).state
+decided_kept H ms t request a s AllClosed is asks k h = rw append-nil (kept_later H s.position ms s.chans (parties s.waits) k)
+decided_kept H ms t request a s NoneReady is asks k h = rw append-nil (kept_later H s.position ms s.chans (parties s.waits) k)
+decided_kept H ms t request a s (Commits d) is asks k h = woken_kept H (s.position + 1) (ms ++ cons_option d.moved []) (record s { chans = d.chans }) d.woken h
 decided_kept H ms t request a s MustWait is asks k h =
-    let w : Waiter = record { tid = t; request = request; at = s.entries } in
-    let more : parties (s.waits ++ w ∷ []) ≡ parties s.waits ++ party t s.entries a ∷ [] =
-    parties_push s.waits w ∙ ap (λ ps. parties s.waits ++ ps) (asked_party t s.entries (alternation_of request) a is) in
-    rw (append-nil, more) (kept_waits H s.entries ms s.chans (parties s.waits) (party t s.entries a) refl asks k)
+    let w : Waiter = record { tid = t; request = request; at = s.position } in
+    let more : parties (s.waits ++ w ∷ []) ≡ parties s.waits ++ party t s.position a ∷ [] =
+    parties_push s.waits w ∙ ap (λ ps. parties s.waits ++ ps) (asked_party t s.position (alternation_of request) a is) in
+    rw (append-nil, more) (kept_waits H s.position ms s.chans (parties s.waits) (party t s.position a) refl asks k)
 
 fits_step : (H : List Entry) (ms : List Move) (n : ℕ) (s : State) (b : Bool) (o : Outcome) (v : Verdict) → KeptIn H n ms s → (b ≡ true → KeptIn H n (ms ++ moved_by v) o.state) → KeptIn H n (ms ++ cond b (moved_by v) []) (cond b o (bad s)).state
 fits_step H ms n s true o v k h = h refl
 fits_step H ms n s false o v k h = rw append-nil k
 
 -- whatever comes of an alt: a call that fits asks for it
-pub alt_kept : (H : List Entry) (ms : List Move) (setup : Setup) (t : ℕ) (request : Request) (a : Alternation) (s : State) → alternation_of request ≡ Some a → (fits s.chans a.entries ≡ true → Asks a.entries (slice_get H s.entries)) → WaitRightly s.chans s.waits → All IsWithin s.chans → KeptIn H s.entries ms s → KeptIn H (s.entries + 1) (ms ++ moved_in setup t s (Some a)) (alt setup t request a s).state
+pub alt_kept : (H : List Entry) (ms : List Move) (setup : Setup) (t : ℕ) (request : Request) (a : Alternation) (s : State) → alternation_of request ≡ Some a → (fits s.chans a.entries ≡ true → Asks a.entries (slice_get H s.position)) → WaitRightly s.chans s.waits → All IsWithin s.chans → KeptIn H s.position ms s → KeptIn H (s.position + 1) (ms ++ moved_in setup t s (Some a)) (alt setup t request a s).state
 alt_kept H ms setup t request a s is asks right within k =
-    fits_step H ms (s.entries + 1) s (fits s.chans a.entries) (decided t request (with_draw a.entries s) (verdict_of setup t a s)) (verdict_of setup t a s)
-    (kept_later H s.entries ms s.chans (parties s.waits) k)
+    fits_step H ms (s.position + 1) s (fits s.chans a.entries) (decided t request (with_draw a.entries s) (verdict_of setup t a s)) (verdict_of setup t a s)
+    (kept_later H s.position ms s.chans (parties s.waits) k)
     (λ f. decided_kept H ms t request a (with_draw a.entries s) (verdict_of setup t a s) is (asks f) k
-    (verdict_kept H ms s.chans s.waits (party t s.entries a) _ a.ending (record { asks = asks f; right = right; within = within; kept = k })))
+    (verdict_kept H ms s.chans s.waits (party t s.position a) _ a.ending (record { asks = asks f; right = right; within = within; kept = k })))

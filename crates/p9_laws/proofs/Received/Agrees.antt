@@ -23,14 +23,14 @@ use Rattle.p9_laws.proofs.Received.Places.{due, says_sent, IsQuiet, told, dues, 
 
 -- entry n of a thread's last call sends a value, which has left its channel or is among that channel's elements
 pub record IsHeld (H : List Entry) (last : Option ℕ) (n : ℕ) (ms : List Move) (chans : List Channel) : Type 0 where
-  pub place : ℕ
+  pub position : ℕ
   pub c : ℕ
   pub bytes : List ℕ
   pub chan : Channel
-  pub is_last : last ≡ Some place
+  pub is_last : last ≡ Some position
   pub is_chan : by_id chans c ≡ Some chan
-  pub sent : IsSendBy n c chan.elsize bytes (slice_get H place)
-  pub held : IsThere c place bytes ms chans
+  pub sent : IsSendBy n c chan.elsize bytes (slice_get H position)
+  pub held : IsThere c position bytes ms chans
 
 -- what thread u at this place is about to be told is so
 pub record IsRight (H : List Entry) (ms : List Move) (chans : List Channel) (last : Option ℕ) (u : ℕ) (pl : Place) : Type 0 where
@@ -50,7 +50,7 @@ pub record Agrees (H : List Entry) (ms : List Move) (rs : List Receipt) (last : 
 
 received_more : (H : List Entry) (last : Option ℕ) (ms mv : List Move) (r : Receipt) → IsReceived H ms last r → IsReceived H (ms ++ mv) last r
 received_more H last ms mv r k =
-    record { place = k.place; index = k.index; move = k.move; is_last = k.is_last; is_move = slice_get-longer mv k.move ms k.index k.is_move; is_of = k.is_of }
+    record { position = k.position; index = k.index; move = k.move; is_last = k.is_last; is_move = slice_get-longer mv k.move ms k.index k.is_move; is_of = k.is_of }
 
 pub all_more : (H : List Entry) (last : Option ℕ) (ms mv : List Move) (rs : List Receipt) → All (IsReceived H ms last) rs → All (IsReceived H (ms ++ mv) last) rs
 all_more H last ms mv rs h = All-weaker (IsReceived H ms last) (IsReceived H (ms ++ mv) last) (received_more H last ms mv) rs h
@@ -65,14 +65,14 @@ pub held_more : (H : List Entry) (last : Option ℕ) (n : ℕ) (ms mv : List Mov
 held_more H last n ms mv chans more grows h =
     let g = grows.each h.c h.chan h.is_chan in
     record {
-      place = h.place;
+      position = h.position;
       c = h.c;
       bytes = h.bytes;
       chan = g.new;
       is_last = h.is_last;
       is_chan = g.there;
-      sent = size_at n h.c h.bytes (slice_get H h.place) h.chan.elsize g.new.elsize g.sized h.sent;
-      held = there_more h.c h.place h.bytes ms mv chans more grows h.held;
+      sent = size_at n h.c h.bytes (slice_get H h.position) h.chan.elsize g.new.elsize g.sized h.sent;
+      held = there_more h.c h.position h.bytes ms mv chans more grows h.held;
     }
 
 pub right_more : (H : List Entry) (ms mv : List Move) (chans more : List Channel) (last : Option ℕ) (u : ℕ) (pl : Place) → Grows mv chans more → IsRight H ms chans last u pl → IsRight H (ms ++ mv) more last u pl

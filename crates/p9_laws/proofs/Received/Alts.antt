@@ -23,7 +23,7 @@ use Rattle.p9_manual.specs.declared.state.Channel.{Channel}
 use Rattle.p9_manual.specs.declared.state.Party.{Party}
 use Rattle.p9_manual.specs.State.{Move, State, Outcome, placed, bad}
 use Rattle.p9_manual.specs.Offers.{Alternation, alternation, alternation_of, party, party_with, parties}
-use Rattle.p9_manual.specs.Ready.{fits, is_ready, ready_entries}
+use Rattle.p9_manual.specs.ReadyEntries.{fits, is_ready, ready_entries}
 use Rattle.p9_manual.specs.Commit.{Deal}
 use Rattle.p9_manual.specs.Alt.{Verdict, AllClosed, Commits, NoneReady, MustWait, is_closed_list, chosen, unready, verdict_on, verdict, verdict_of, with_draw, dealt, decided, alt}
 use Rattle.p9_manual.specs.Standing.{place_of}
@@ -119,16 +119,16 @@ index_new : (m : Move) → (ms mv : List Move) (i : ℕ) → slice_get mv i ≡ 
 index_new m [] mv i e = (i, e)
 index_new m (x ∷ ms) mv i e = let k = index_new m ms mv i e in (suc k.0, k.1)
 
-there_new : (c place : ℕ) (bytes : List ℕ) (ms mv : List Move) (chans : List Channel) → IsThere c place bytes mv chans → IsThere c place bytes (ms ++ mv) chans
-there_new c place bytes ms mv chans (inl left) = inl (left_new c place bytes ms mv left)
-there_new c place bytes ms mv chans (inr among) = inr among
+there_new : (c position : ℕ) (bytes : List ℕ) (ms mv : List Move) (chans : List Channel) → IsThere c position bytes mv chans → IsThere c position bytes (ms ++ mv) chans
+there_new c position bytes ms mv chans (inl left) = inl (left_new c position bytes ms mv left)
+there_new c position bytes ms mv chans (inr among) = inr among
 
 -- a receipt by an entry of an alt is one by the call that asked for it
 got_received : (H : List Entry) (ms mv : List Move) (w : Party) (last : Option ℕ) (r : Receipt) → Asks w.entries (slice_get H w.at) → last ≡ Some w.at → IsGot w.entries mv r → IsReceived H (ms ++ mv) last r
 got_received H ms mv w last r a e g =
     let k = index_new g.move ms mv g.index g.is_move in
     record {
-      place = w.at;
+      position = w.at;
       index = k.0;
       move = g.move;
       is_last = e;
@@ -139,7 +139,7 @@ got_received H ms mv w last r a e g =
 given_held : (H : List Entry) (ms mv : List Move) (chans : List Channel) (w : Party) (n : ℕ) (last : Option ℕ) → Asks w.entries (slice_get H w.at) → last ≡ Some w.at → IsGiven w n mv chans → IsHeld H last n (ms ++ mv) chans
 given_held H ms mv chans w n last a e g =
     record {
-      place = w.at;
+      position = w.at;
       c = g.c;
       bytes = g.bytes;
       chan = g.chan;
@@ -168,8 +168,8 @@ woken_right H ms mv last waits chans w k asked c =
     subst (λ (t : ℕ). IsRight H (ms ++ mv) chans (last t) t (Ready w.1)) (sym k.is_tid)
     (told_right H ms mv chans last k.party w.1 (asked_step H (parties waits) k.index k.party asked k.waits_there) c.is_last k.told)
 
-dealt_agrees : (t : ℕ) (a : Alternation) (s : State) (answer : Answer) (o : Option (ℕ × Answer)) (moved : Option Move) (chans : List Channel) → 1 ≤ t → IsFair (party t s.entries a) s.chans (parties s.waits) (record { answer = answer; woken = o; moved = moved; chans = chans }) →
-    (H : List Entry) → Asks a.entries (slice_get H s.entries) → AreAsked H s → (ms : List Move) (rs : List Receipt) (last : ℕ → Option ℕ) → last t ≡ Some s.entries → Agrees H ms rs last s.threads s.waits s.chans →
+dealt_agrees : (t : ℕ) (a : Alternation) (s : State) (answer : Answer) (o : Option (ℕ × Answer)) (moved : Option Move) (chans : List Channel) → 1 ≤ t → IsFair (party t s.position a) s.chans (parties s.waits) (record { answer = answer; woken = o; moved = moved; chans = chans }) →
+    (H : List Entry) → Asks a.entries (slice_get H s.position) → AreAsked H s → (ms : List Move) (rs : List Receipt) (last : ℕ → Option ℕ) → last t ≡ Some s.position → Agrees H ms rs last s.threads s.waits s.chans →
     Agrees H (ms ++ out (record { answer = answer; woken = o; moved = moved; chans = chans })) rs last (dealt t (record { answer = answer; woken = o; moved = moved; chans = chans }) s).state.threads (dealt t (record { answer = answer; woken = o; moved = moved; chans = chans }) s).state.waits (dealt t (record { answer = answer; woken = o; moved = moved; chans = chans }) s).state.chans
 dealt_agrees t a s answer None moved chans made f H asks asked ms rs last e g =
     let d : Deal = record { answer = answer; woken = None; moved = moved; chans = chans } in
@@ -178,7 +178,7 @@ dealt_agrees t a s answer None moved chans made f H asks asked ms rs last e g =
       counts = λ p.
           let c = g.counts p in let k = dues-changed p (Ready answer) s.threads (t - 1) in
           let z = moved-append p ms (out d) in let y = f.counts p in omega (arith, c, k, z, y);
-      right = right_put H (ms ++ out d) chans last s.threads t (Ready answer) made (told_right H ms (out d) chans last (party t s.entries a) answer asks e f.caller) more.right;
+      right = right_put H (ms ++ out d) chans last s.threads t (Ready answer) made (told_right H ms (out d) chans last (party t s.position a) answer asks e f.caller) more.right;
       calls = g.calls;
     }
 dealt_agrees t a s answer (Some w) moved chans made f H asks asked ms rs last e g =
@@ -193,7 +193,7 @@ dealt_agrees t a s answer (Some w) moved chans made f H asks asked ms rs last e 
           let z = moved-append p ms (out d) in let y = f.counts p in omega (arith, b, h, k, z, y);
       right =
           right_put H (ms ++ out d) chans last (placed w.0 (Ready w.1) s.threads) t (Ready answer) made
-          (told_right H ms (out d) chans last (party t s.entries a) answer asks e f.caller)
+          (told_right H ms (out d) chans last (party t s.position a) answer asks e f.caller)
           (right_put H (ms ++ out d) chans last s.threads w.0 (Ready w.1) tid (woken_right H ms (out d) last s.waits chans w f.woken asked c) more.right);
       calls = (fewer_waits more w.0).calls;
     }
@@ -202,13 +202,13 @@ dealt_grows : (mv : List Move) (t : ℕ) (s : State) (answer : Answer) (o : Opti
 dealt_grows mv t s answer None moved chans g = g
 dealt_grows mv t s answer (Some w) moved chans g = g
 
-dealt_keeps : (t : ℕ) (r : Request) (a : Alternation) (s : State) (d : Deal) → alternation_of r ≡ Some a → 1 ≤ t → IsFair (party t s.entries a) s.chans (parties s.waits) d → Keeps t r s (out d) (dealt t d s)
+dealt_keeps : (t : ℕ) (r : Request) (a : Alternation) (s : State) (d : Deal) → alternation_of r ≡ Some a → 1 ≤ t → IsFair (party t s.position a) s.chans (parties s.waits) d → Keeps t r s (out d) (dealt t d s)
 dealt_keeps t r a s d is made f =
     record {
       silent = refl;
       grows = dealt_grows (out d) t s d.answer d.woken d.moved d.chans f.grows;
       agrees = λ H seat here asked ms rs last e g.
-          dealt_agrees t a s d.answer d.woken d.moved d.chans made f H (asks_here H s.entries seat t r Waits a here refl is) asked ms rs last e g;
+          dealt_agrees t a s d.answer d.woken d.moved d.chans made f H (asks_here H s.position seat t r Waits a here refl is) asked ms rs last e g;
     }
 
 -- a verdict by which only fair deals are made
@@ -222,21 +222,21 @@ unready_right : (me : Party) (chans : List Channel) (waits : List Party) (ending
 unready_right me chans waits NoBlk = tt
 unready_right me chans waits End = tt
 
-verdict_on_right : (word : ℕ) (me : Party) (ending : Ending) (chans : List Channel) (waits : List Party) (ready : List ℕ) → AllAlone me waits → All (HasPassing (is_ready chans waits) me.entries) ready → VerdictRight me chans waits (verdict_on word me ending chans waits ready)
-verdict_on_right word me ending chans waits [] alone h = unready_right me chans waits ending
-verdict_on_right word me ending chans waits (i ∷ []) alone h = commit_fair me i chans waits alone (h 0 0 (omega arith))
-verdict_on_right word me ending chans waits (i ∷ j ∷ more) alone h =
-    commit_fair me (chosen word (i ∷ j ∷ more)) chans waits alone (h (word % length (i ∷ j ∷ more)) 0 (in_list word (length more)))
+verdict_on_right : (draw : ℕ) (me : Party) (ending : Ending) (chans : List Channel) (waits : List Party) (ready : List ℕ) → AllAlone me waits → All (HasPassing (is_ready chans waits) me.entries) ready → VerdictRight me chans waits (verdict_on draw me ending chans waits ready)
+verdict_on_right draw me ending chans waits [] alone h = unready_right me chans waits ending
+verdict_on_right draw me ending chans waits (i ∷ []) alone h = commit_fair me i chans waits alone (h 0 0 (omega arith))
+verdict_on_right draw me ending chans waits (i ∷ j ∷ more) alone h =
+    commit_fair me (chosen draw (i ∷ j ∷ more)) chans waits alone (h (draw % length (i ∷ j ∷ more)) 0 (in_list draw (length more)))
 
 if_right : (me : Party) (chans : List Channel) (waits : List Party) (b : Bool) (v : Verdict) → VerdictRight me chans waits v → VerdictRight me chans waits (cond b AllClosed v)
 if_right me chans waits true v h = tt
 if_right me chans waits false v h = h
 
-verdict_right : (word : ℕ) (me : Party) (ending : Ending) (chans : List Channel) (waits : List Party) → AllAlone me waits → VerdictRight me chans waits (verdict word me ending chans waits)
-verdict_right word me ending chans waits alone =
-    if_right me chans waits (is_closed_list me.entries) _ (verdict_on_right word me ending chans waits (ready_entries chans waits me.entries) alone (ready_numbers chans waits me.entries))
+verdict_right : (draw : ℕ) (me : Party) (ending : Ending) (chans : List Channel) (waits : List Party) → AllAlone me waits → VerdictRight me chans waits (verdict draw me ending chans waits)
+verdict_right draw me ending chans waits alone =
+    if_right me chans waits (is_closed_list me.entries) _ (verdict_on_right draw me ending chans waits (ready_entries chans waits me.entries) alone (ready_numbers chans waits me.entries))
 
-decided_keeps : (t : ℕ) (r : Request) (a : Alternation) (s : State) (v : Verdict) → alternation_of r ≡ Some a → 1 ≤ t → VerdictRight (party t s.entries a) s.chans (parties s.waits) v → Keeps t r s (moved_by v) (decided t r s v)
+decided_keeps : (t : ℕ) (r : Request) (a : Alternation) (s : State) (v : Verdict) → alternation_of r ≡ Some a → 1 ≤ t → VerdictRight (party t s.position a) s.chans (parties s.waits) v → Keeps t r s (moved_by v) (decided t r s v)
 decided_keeps t r a s AllClosed is made h = stays_keeps t r s _ (done_stays t s Closed (record { nothing = λ u. refl; unsent = refl }))
 decided_keeps t r a s (Commits d) is made h = dealt_keeps t r a s d is made h
 decided_keeps t r a s NoneReady is made h = stays_keeps t r s _ (done_stays t s NoBlock (record { nothing = λ u. refl; unsent = refl }))
@@ -245,7 +245,7 @@ decided_keeps t r a s MustWait is made h = stays_keeps t r s _ (waiting_stays t 
 drawn_keeps : (t : ℕ) (r : Request) (entries : List AltEntry) (s : State) (mv : List Move) (o : Outcome) → Keeps t r (with_draw entries s) mv o → Keeps t r s mv o
 drawn_keeps t r entries s mv o k = record { silent = k.silent; grows = k.grows; agrees = k.agrees }
 
-by_verdict : (t : ℕ) (r : Request) (a : Alternation) (s : State) (v : Verdict) → alternation_of r ≡ Some a → 1 ≤ t → VerdictRight (party t s.entries a) s.chans (parties s.waits) v → Keeps t r s (cond (fits s.chans a.entries) (moved_by v) []) (cond (fits s.chans a.entries) (decided t r (with_draw a.entries s) v) (bad s))
+by_verdict : (t : ℕ) (r : Request) (a : Alternation) (s : State) (v : Verdict) → alternation_of r ≡ Some a → 1 ≤ t → VerdictRight (party t s.position a) s.chans (parties s.waits) v → Keeps t r s (cond (fits s.chans a.entries) (moved_by v) []) (cond (fits s.chans a.entries) (decided t r (with_draw a.entries s) v) (bad s))
 by_verdict t r a s v is made h =
     if_keeps t r s (fits s.chans a.entries) _ _ _ _
     (drawn_keeps t r a.entries s (moved_by v) _ (decided_keeps t r a (with_draw a.entries s) v is made h))
@@ -254,4 +254,4 @@ by_verdict t r a s v is made h =
 pub alt_keeps : (setup : Setup) (t : ℕ) (r : Request) (a : Alternation) (s : State) → alternation_of r ≡ Some a → 1 ≤ t → Keeps t r s (cond (fits s.chans a.entries) (moved_by (verdict_of setup t a s)) []) (alt setup t r a s)
 alt_keeps setup t r a s is made =
     by_verdict t r a s (verdict_of setup t a s) is made
-    (verdict_right _ (party t s.entries a) a.ending s.chans (parties s.waits) (all_alone t s.entries r a s.waits is))
+    (verdict_right _ (party t s.position a) a.ending s.chans (parties s.waits) (all_alone t s.position r a s.waits is))

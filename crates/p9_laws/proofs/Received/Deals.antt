@@ -11,8 +11,8 @@ use Rattle.p9_manual.specs.declared.state.Channel.{Channel}
 use Rattle.p9_manual.specs.declared.state.Element.{Element}
 use Rattle.p9_manual.specs.declared.state.Party.{Party}
 use Rattle.p9_manual.specs.State.{Move, by_id}
-use Rattle.p9_manual.specs.Entries.{receives_from, receives_on, sends_on}
-use Rattle.p9_manual.specs.Ready.{is_unbuffered, can_go_on, is_ready}
+use Rattle.p9_manual.specs.AltEntries.{receives_from, receives_on, sends_on}
+use Rattle.p9_manual.specs.ReadyEntries.{is_unbuffered, can_go_on, is_ready}
 use Rattle.p9_manual.specs.Commit.{Deal, holding, with_elements, element, failed, hand_over, pass_on, commit_send, take_over, refilled, sender_woken, receive_from, commit_op, commit_entry, commit}
 use Rattle.p9_manual.specs.Told.{sent_bytes, kept_bytes, sent_answer, got_answer, sender_bytes}
 use Rattle.p9_laws.specs.Moves.{times_moved}

@@ -10,9 +10,9 @@ use Rattle.p9_laws.proofs.Sound.Places.{by_id-suc}
 use Rattle.p9_laws.proofs.Moves.Sent.{slice_get-longer}
 use Rattle.p9_laws.proofs.Moves.Kept.{each_channel}
 
--- the value that the call at this place sent has left channel c, or is among its elements
+-- the value that the call at this position sent has left channel c, or is among its elements
 abbrev pub IsThere : ℕ → ℕ → List ℕ → List Move → List Channel → Type 0
-IsThere c place bytes ms chans = HasLeft c place bytes ms ⊎ IsAmong c place bytes chans
+IsThere c position bytes ms chans = HasLeft c position bytes ms ⊎ IsAmong c position bytes chans
 
 -- an element has left channel c, or is among these
 abbrev pub Remains : List Move → ℕ → List Element → Element → Type 0
@@ -71,23 +71,23 @@ grows_held mv chans c chan later at kept =
           (λ d ne old there. record { new = old; there = there; sized = refl; kept = λ k e is. inr (k, is) });
     }
 
-pub left_more : (c place : ℕ) (bytes : List ℕ) (ms mv : List Move) → HasLeft c place bytes ms → HasLeft c place bytes (ms ++ mv)
-left_more c place bytes ms mv (t, i, is) = (t, i, slice_get-longer mv _ ms i is)
+pub left_more : (c position : ℕ) (bytes : List ℕ) (ms mv : List Move) → HasLeft c position bytes ms → HasLeft c position bytes (ms ++ mv)
+left_more c position bytes ms mv (t, i, is) = (t, i, slice_get-longer mv _ ms i is)
 
-pub left_new : (c place : ℕ) (bytes : List ℕ) → (ms : List Move) (mv : List Move) → HasLeft c place bytes mv → HasLeft c place bytes (ms ++ mv)
-left_new c place bytes [] mv h = h
-left_new c place bytes (x ∷ ms) mv h = let k = left_new c place bytes ms mv h in (k.0, suc k.1, k.2)
+pub left_new : (c position : ℕ) (bytes : List ℕ) → (ms : List Move) (mv : List Move) → HasLeft c position bytes mv → HasLeft c position bytes (ms ++ mv)
+left_new c position bytes [] mv h = h
+left_new c position bytes (x ∷ ms) mv h = let k = left_new c position bytes ms mv h in (k.0, suc k.1, k.2)
 
-among_at : (c place : ℕ) (bytes : List ℕ) (ms mv : List Move) (more : List Channel) (old : Channel) → GrowsAt mv c old (by_id more c) → (i : ℕ) → slice_get old.elements i ≡ Some (record { from = place; msg = bytes }) → IsThere c place bytes (ms ++ mv) more
-among_at c place bytes ms mv more old g i is = elim (g.kept i (record { from = place; msg = bytes }) is) [
-  | inl left ↦ inl (left_new c place bytes ms mv left)
+among_at : (c position : ℕ) (bytes : List ℕ) (ms mv : List Move) (more : List Channel) (old : Channel) → GrowsAt mv c old (by_id more c) → (i : ℕ) → slice_get old.elements i ≡ Some (record { from = position; msg = bytes }) → IsThere c position bytes (ms ++ mv) more
+among_at c position bytes ms mv more old g i is = elim (g.kept i (record { from = position; msg = bytes }) is) [
+  | inl left ↦ inl (left_new c position bytes ms mv left)
   | inr found ↦ inr (g.new, found.0, g.there, found.1)
 ]
 
 -- a value that is there stays there
-pub there_more : (c place : ℕ) (bytes : List ℕ) (ms mv : List Move) (chans more : List Channel) → Grows mv chans more → IsThere c place bytes ms chans → IsThere c place bytes (ms ++ mv) more
-there_more c place bytes ms mv chans more grows (inl left) = inl (left_more c place bytes ms mv left)
-there_more c place bytes ms mv chans more grows (inr (chan, i, at, is)) = among_at c place bytes ms mv more chan (grows.each c chan at) i is
+pub there_more : (c position : ℕ) (bytes : List ℕ) (ms mv : List Move) (chans more : List Channel) → Grows mv chans more → IsThere c position bytes ms chans → IsThere c position bytes (ms ++ mv) more
+there_more c position bytes ms mv chans more grows (inl left) = inl (left_more c position bytes ms mv left)
+there_more c position bytes ms mv chans more grows (inr (chan, i, at, is)) = among_at c position bytes ms mv more chan (grows.each c chan at) i is
 
 remains_then : (c : ℕ) (mv mw : List Move) (later last : List Element) (e : Element) → ((k : ℕ) → slice_get later k ≡ Some e → Remains mw c last e) → Remains mv c later e → Remains (mv ++ mw) c last e
 remains_then c mv mw later last e next (inl left) = inl (left_more c e.from e.msg mv mw left)

@@ -24,7 +24,7 @@ use Rattle.p9_laws.proofs.Sound.Counts.{times-append}
 use Rattle.p9_laws.proofs.Sound.Places.{by_id-suc, get_from_by_id}
 use Rattle.p9_laws.proofs.Sound.Histories.{state_sound}
 use Rattle.p9_laws.proofs.Moves.Senders.{is_itself}
-use Rattle.p9_laws.proofs.Moves.Laws.{begin_follows, follows_after, places_rise, moves_once, moves_sent}
+use Rattle.p9_laws.proofs.Moves.Laws.{begin_follows, follows_after, positions_rise, moves_once, moves_sent}
 use Rattle.p9_laws.proofs.Received.Places.{IsQuiet, dues}
 use Rattle.p9_laws.proofs.Received.Agrees.{IsCaller, IsRight, right_quiet}
 use Rattle.p9_laws.proofs.Received.Grows.{IsThere}
@@ -63,9 +63,9 @@ after_history setup entries valid legal =
     history_right setup entries entries [] (begin_state setup) [] [] (λ u. None) refl (sound_from setup valid) legal (begin_follows setup) (begin_agrees setup entries)
 
 pub receipts_once : (setup : Setup) (entries : List Entry) → IsValid setup → IsLegal setup entries → ReceiptsOnce setup entries
-receipts_once setup entries valid legal place =
-    let k = (after_history setup entries valid legal).counts place in
-    let o = moves_once setup entries valid legal place in
+receipts_once setup entries valid legal position =
+    let k = (after_history setup entries valid legal).counts position in
+    let o = moves_once setup entries valid legal position in
     omega (arith, k, o)
 
 -- what a thread is told at its turn is so after the whole history
@@ -92,12 +92,12 @@ counted_in q (x ∷ xs) (suc i) chan at =
     omega (arith, a, k)
 
 -- a value that is there is counted
-there_counts : (c place : ℕ) (bytes : List ℕ) (ms : List Move) (chans : List Channel) → IsThere c place bytes ms chans → 1 ≤ times_moved place ms + times (λ (e : Element). eqb e.from place) (elements_of chans)
-there_counts c place bytes ms chans (inl (t, i, at)) =
-    let k = counted_at (λ (m : Move). eqb m.from place) ms i (record { chan = c; from = place; to = t; bytes = bytes }) at (is_itself place) in omega (arith, k)
-there_counts c place bytes ms chans (inr (chan, i, here, at)) =
-    let k = counted_at (λ (e : Element). eqb e.from place) chan.elements i (record { from = place; msg = bytes }) at (is_itself place) in
-    let l = counted_in (λ (e : Element). eqb e.from place) chans (c - 1) chan (get_from_by_id chans c chan here) in
+there_counts : (c position : ℕ) (bytes : List ℕ) (ms : List Move) (chans : List Channel) → IsThere c position bytes ms chans → 1 ≤ times_moved position ms + times (λ (e : Element). eqb e.from position) (elements_of chans)
+there_counts c position bytes ms chans (inl (t, i, at)) =
+    let k = counted_at (λ (m : Move). eqb m.from position) ms i (record { chan = c; from = position; to = t; bytes = bytes }) at (is_itself position) in omega (arith, k)
+there_counts c position bytes ms chans (inr (chan, i, here, at)) =
+    let k = counted_at (λ (e : Element). eqb e.from position) chan.elements i (record { from = position; msg = bytes }) at (is_itself position) in
+    let l = counted_in (λ (e : Element). eqb e.from position) chans (c - 1) chan (get_from_by_id chans c chan here) in
     omega (arith, k, l)
 
 sized_in : (n c : ℕ) (bytes : List ℕ) (found : Option Entry) (chan : Channel) (o : Option Channel) → o ≡ Some chan → IsSendBy n c chan.elsize bytes found → IsSendBy n c (elsize_of o) bytes found
@@ -107,14 +107,14 @@ pub sends_kept : (setup : Setup) (entries : List Entry) → IsValid setup → Is
 sends_kept setup entries valid legal i t n a e at told sent =
     let chans = (state_after setup entries).chans in
     let h = (told_after setup entries valid legal i t a e at told).sent n sent in
-    let counts = there_counts h.c h.place h.bytes (moves setup entries) chans h.held in
-    let once = (follows_after setup entries valid legal).kept.once.once h.place in
+    let counts = there_counts h.c h.position h.bytes (moves setup entries) chans h.held in
+    let once = (follows_after setup entries valid legal).kept.once.once h.position in
     record {
-      place = h.place;
+      position = h.position;
       chan = h.c;
       bytes = h.bytes;
       is_last = h.is_last;
-      sent = sized_in n h.c h.bytes (slice_get entries h.place) h.chan (by_id chans h.c) h.is_chan h.sent;
+      sent = sized_in n h.c h.bytes (slice_get entries h.position) h.chan (by_id chans h.c) h.is_chan h.sent;
       is_there = h.held;
       once = omega (arith, counts, once);
     }
@@ -123,7 +123,7 @@ sends_kept setup entries valid legal i t n a e at told sent =
 pub one_to_one : (setup : Setup) (entries : List Entry) → IsValid setup → IsLegal setup entries → OneToOne setup entries
 one_to_one setup entries valid legal =
     record {
-      rise = places_rise setup entries valid legal;
+      rise = positions_rise setup entries valid legal;
       once = moves_once setup entries valid legal;
       sent = moves_sent setup entries valid legal;
       receipts = receipts_moved setup entries valid legal;

@@ -35,13 +35,13 @@ AreAsked H s = All (IsAsked H) (parties s.waits)
 pub record Keeps (t : ℕ) (r : Request) (s : State) (mv : List Move) (o : Outcome) : Type 0 where
   pub silent : is_turn o.reply ≡ false
   pub grows : Grows mv s.chans o.state.chans
-  pub agrees : (H : List Entry) (seat : Seat) → IsHere H s.entries seat (Call t r) o → AreAsked H s → (ms : List Move) (rs : List Receipt) (last : ℕ → Option ℕ) → last t ≡ Some s.entries → GoesOn H s o.state last ms rs mv
+  pub agrees : (H : List Entry) (seat : Seat) → IsHere H s.position seat (Call t r) o → AreAsked H s → (ms : List Move) (rs : List Receipt) (last : ℕ → Option ℕ) → last t ≡ Some s.position → GoesOn H s o.state last ms rs mv
 
 -- nothing moves
 pub record Stays (t : ℕ) (s : State) (o : Outcome) : Type 0 where
   pub silent : is_turn o.reply ≡ false
   pub grows : Grows [] s.chans o.state.chans
-  pub agrees : (H : List Entry) (ms : List Move) (rs : List Receipt) (last : ℕ → Option ℕ) → last t ≡ Some s.entries → Agrees H ms rs last s.threads s.waits s.chans → Agrees H ms rs last o.state.threads o.state.waits o.state.chans
+  pub agrees : (H : List Entry) (ms : List Move) (rs : List Receipt) (last : ℕ → Option ℕ) → last t ≡ Some s.position → Agrees H ms rs last s.threads s.waits s.chans → Agrees H ms rs last o.state.threads o.state.waits o.state.chans
 
 pub stays_keeps : (t : ℕ) (r : Request) (s : State) (o : Outcome) → Stays t s o → Keeps t r s [] o
 stays_keeps t r s o k =
@@ -74,5 +74,5 @@ waiting_stays t s r made =
       silent = refl;
       grows = grows_same [] s.chans;
       agrees = λ H ms rs last e a.
-          more_waits (put_quietly a t Waiting (record { nothing = λ u. refl; unsent = refl })) (record { tid = t; request = r; at = s.entries }) (record { made = made; is_last = e });
+          more_waits (put_quietly a t Waiting (record { nothing = λ u. refl; unsent = refl })) (record { tid = t; request = r; at = s.position }) (record { made = made; is_last = e });
     }

@@ -34,7 +34,7 @@ pub record IsQuiet (pl : Place) : Type 0 where
   pub nothing : (t : ℕ) → due t pl ≡ []
   pub unsent : says_sent pl ≡ None
 
--- how often the value of place p is among receipts
+-- how often the value of position p is among receipts
 abbrev pub told : ℕ → List Receipt → ℕ
 told p rs = times (λ r. eqb r.from p) rs
 
@@ -61,7 +61,7 @@ dues-changed p pl [] i = omega arith
 dues-changed p pl (x ∷ xs) zero = omega arith
 dues-changed p pl (x ∷ xs) (suc i) = omega (arith, dues-changed p pl xs i)
 
--- exactly, where a thread is put in the place that another one left
+-- exactly, where a thread is put at the index that another one left
 pub dues-put : (p : ℕ) (pl : Place) → (threads : List Thread) (i : ℕ) (x : Thread) → slice_get threads i ≡ Some x → dues p (changed (at_place pl) threads i) + told p (due 0 x.place) ≡ dues p threads + told p (due 0 pl)
 dues-put p pl [] i x e = cc
 dues-put p pl (y ∷ xs) zero x e = let same : y ≡ x = cc in rw same (omega arith)

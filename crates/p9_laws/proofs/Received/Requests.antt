@@ -21,7 +21,7 @@ use Rattle.p9_laws.specs.Receipts.{Receipt}
 use Rattle.p9_manual.specs.Effects.{message_length}
 use Rattle.p9_manual.specs.State.{Move, State, Outcome, by_id, changed, now, wake}
 use Rattle.p9_manual.specs.Offers.{parties}
-use Rattle.p9_manual.specs.Entries.{is_on, waits_on, first_number}
+use Rattle.p9_manual.specs.AltEntries.{is_on, waits_on, first_number}
 use Rattle.p9_manual.specs.Told.{failed_answer}
 use Rattle.p9_manual.specs.Threads.{thread_call}
 use Rattle.p9_manual.specs.Create.{fresh}

@@ -52,7 +52,7 @@ no_thread_runs : (p : ℕ) (threads : List Thread) (t : ℕ) → runs_there p (b
 no_thread_runs p threads zero h = cc
 no_thread_runs p threads (suc t) h = omega arith
 
--- the last calls of threads, where thread t makes one at place n
+-- the last calls of threads, where thread t makes one at position n
 abbrev with_call : ℕ → ℕ → (ℕ → Option ℕ) → ℕ → Option ℕ
 with_call t n last u = cond (eqb t u) (Some n) (last u)
 
@@ -77,7 +77,7 @@ right_call H ms chans last t n u pl true e runs r =
     right_at H ms chans (Some n) u Running pl (runs same_thread) (right_quiet H ms chans (Some n) u Running (record { nothing = λ v. refl; unsent = refl }))
 right_call H ms chans last t n u pl false e runs r = r
 
--- thread t, which runs, makes a call at place n
+-- thread t, which runs, makes a call at position n
 call_made : (H : List Entry) (ms : List Move) (rs : List Receipt) (last : ℕ → Option ℕ) (s : State) (t n : ℕ) → place_of s.threads t ≡ Running → times (λ w. eqb w.tid t) s.waits ≡ 0 → Agrees H ms rs last s.threads s.waits s.chans → Agrees H ms rs (with_call t n last) s.threads s.waits s.chans
 call_made H ms rs last s t n runs none a =
     record {
@@ -97,8 +97,8 @@ call_right setup p t r s mv o sound h k =
       agrees = λ makes H seat here asked ms rs last a.
           let e = silent_nothing o.reply k.silent in
           rw (e, append-nil rs)
-          (k.agrees H seat here asked ms rs (with_call t s.entries last) (own_call t s.entries last)
-          (call_made H ms rs last s t s.entries runs (sound.stand.in_waits t ∙ ap times_in_waits runs) a));
+          (k.agrees H seat here asked ms rs (with_call t s.position last) (own_call t s.position last)
+          (call_made H ms rs last s t s.position runs (sound.stand.in_waits t ∙ ap times_in_waits runs) a));
       turns = λ u a e. absurd (silent_no_turn o.reply u a k.silent e);
     }
 
@@ -133,10 +133,10 @@ pub step_right : (setup : Setup) (seat : Seat) (event : Event) (s : State) → I
 unfolding step
 step_right setup seat event s sound = counted_right s event (moved_at setup seat event s) (outcome setup seat event s) _ refl (outcome_right setup seat event s sound)
 
-counted_entries : (s : State) (o : Outcome) → makes_entry o.reply ≡ true → (counted s o).state.entries ≡ s.entries + 1
-counted_entries s o h = rw h refl
+counted_position : (s : State) (o : Outcome) → makes_entry o.reply ≡ true → (counted s o).state.position ≡ s.position + 1
+counted_position s o h = rw h refl
 
 -- an entry more
-pub step_entries : (setup : Setup) (seat : Seat) (event : Event) (s : State) → makes_entry (step setup seat event s).reply ≡ true → (step setup seat event s).state.entries ≡ s.entries + 1
+pub step_position : (setup : Setup) (seat : Seat) (event : Event) (s : State) → makes_entry (step setup seat event s).reply ≡ true → (step setup seat event s).state.position ≡ s.position + 1
 unfolding step
-step_entries setup seat event s h = counted_entries s (outcome setup seat event s) h
+step_position setup seat event s h = counted_position s (outcome setup seat event s) h

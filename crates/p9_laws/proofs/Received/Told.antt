@@ -8,7 +8,7 @@ use Rattle.p9_word.specs.declared.answer.Answer.{Answer}
 use Rattle.p9_manual.specs.declared.state.Channel.{Channel}
 use Rattle.p9_manual.specs.declared.state.Party.{Party}
 use Rattle.p9_manual.specs.State.{Move, by_id}
-use Rattle.p9_manual.specs.Entries.{receives_from, receives_on, sends_to, sends_on, first_number}
+use Rattle.p9_manual.specs.AltEntries.{receives_from, receives_on, sends_to, sends_on, first_number}
 use Rattle.p9_manual.specs.Told.{sent_bytes, kept_bytes, sent_answer, got_answer, failed_answer, sender_bytes, sender_answer, receiver_answer}
 use Rattle.p9_laws.specs.Senders.{SendsBytes}
 use Rattle.p9_laws.specs.Receipts.{Receipt, received_by}
@@ -116,7 +116,7 @@ told_got w i e m chans alone there receives to =
 pub told_receiver : (w : Party) (c : ℕ) (m : Move) (chans : List Channel) → IsAlone w → receives_on c w ≡ true → m.chan ≡ c → m.to ≡ w.tid → IsTold w (receiver_answer c m.from m.bytes w) (m ∷ []) chans
 told_receiver w c m chans alone receives on to =
     let f = first_entry (receives_from c) w.entries receives in
-    rw (f.number, f.slot) (told_got w f.place f.entry m chans alone f.there (rw on f.passes) to)
+    rw (f.number, f.slot) (told_got w f.index f.entry m chans alone f.there (rw on f.passes) to)
 
 -- a thread that waits to send gives by its first entry that does
 pub told_sender : (w : Party) (c : ℕ) (mv : List Move) (chans : List Channel) (chan : Channel) → IsAlone w → sends_on c w ≡ true → by_id chans c ≡ Some chan → IsThere c w.at (sender_bytes c chan.elsize w) mv chans → IsTold w (sender_answer c w) mv chans

@@ -20,7 +20,7 @@ use Rattle.p9_manual.specs.declared.state.Ioproc.{Ioproc}
 use Rattle.p9_manual.specs.declared.state.Ioproc.TheVariants.{Unmade, Idle, Posted, Begun, Closed}
 use Rattle.p9_manual.specs.Places.{lives, runs_in, is_of}
 use Rattle.p9_laws.specs.Receipts.{Receipt, received_at, received_by}
-use Rattle.p9_laws.specs.LastCall.{call_place}
+use Rattle.p9_laws.specs.LastCall.{call_position}
 use Rattle.p9_manual.specs.Effects.{fits}
 use Rattle.p9_manual.specs.Ioprocs.{with_ioproc, take_call, did_call, answered, effect_answer, io_event}
 use Rattle.p9_manual.specs.Next.{is_place, is_over, turn_reply, started, turn, next_of, next_event}
@@ -39,7 +39,7 @@ use Rattle.p9_laws.proofs.Moves.Steps.{IsHere}
 -- goes on with the answer with which it stood ready
 pub record GoesRight (s : State) (event : Event) (mv : List Move) (o : Outcome) : Type 0 where
   pub grows : Grows mv s.chans o.state.chans
-  pub agrees : makes_entry o.reply ≡ true → (H : List Entry) (seat : Seat) → IsHere H s.entries seat event o → AreAsked H s → (ms : List Move) (rs : List Receipt) (last : ℕ → Option ℕ) → Agrees H ms rs last s.threads s.waits s.chans → Agrees H (ms ++ mv) (rs ++ received_at o.reply) (λ u. call_place u s.entries (last u) event) o.state.threads o.state.waits o.state.chans
+  pub agrees : makes_entry o.reply ≡ true → (H : List Entry) (seat : Seat) → IsHere H s.position seat event o → AreAsked H s → (ms : List Move) (rs : List Receipt) (last : ℕ → Option ℕ) → Agrees H ms rs last s.threads s.waits s.chans → Agrees H (ms ++ mv) (rs ++ received_at o.reply) (λ u. call_position u s.position (last u) event) o.state.threads o.state.waits o.state.chans
   pub turns : (t : ℕ) (a : Answer) → o.reply ≡ Turn t a → place_of s.threads t ≡ Ready a
 
 pub silent_nothing : (reply : Reply) → is_turn reply ≡ false → received_at reply ≡ []
@@ -58,7 +58,7 @@ stray_right s event reply h =
     }
 
 -- an event that moves nothing, tells nothing and is no call
-quiet_right : (s : State) (event : Event) (o : Outcome) → is_turn o.reply ≡ false → o.state.chans ≡ s.chans → ((H : List Entry) (ms : List Move) (rs : List Receipt) (last : ℕ → Option ℕ) → Agrees H ms rs last s.threads s.waits s.chans → Agrees H ms rs (λ u. call_place u s.entries (last u) event) o.state.threads o.state.waits o.state.chans) → GoesRight s event [] o
+quiet_right : (s : State) (event : Event) (o : Outcome) → is_turn o.reply ≡ false → o.state.chans ≡ s.chans → ((H : List Entry) (ms : List Move) (rs : List Receipt) (last : ℕ → Option ℕ) → Agrees H ms rs last s.threads s.waits s.chans → Agrees H ms rs (λ u. call_position u s.position (last u) event) o.state.threads o.state.waits o.state.chans) → GoesRight s event [] o
 quiet_right s event o silent same_chans k =
     record {
       grows = subst (λ (chans : List Channel). Grows [] s.chans chans) (sym same_chans) (grows_same [] s.chans);

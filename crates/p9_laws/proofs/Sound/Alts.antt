@@ -17,7 +17,7 @@ use Rattle.p9_manual.specs.declared.state.Channel.{Channel}
 use Rattle.p9_manual.specs.declared.state.Waiter.{Waiter}
 use Rattle.p9_manual.specs.declared.state.Party.{Party}
 use Rattle.p9_manual.specs.Offers.{Alternation, alternation, party, party_with, parties}
-use Rattle.p9_manual.specs.Ready.{is_ready, ready_entries, fits_entry, fits}
+use Rattle.p9_manual.specs.ReadyEntries.{is_ready, ready_entries, fits_entry, fits}
 use Rattle.p9_manual.specs.Commit.{commit}
 use Rattle.p9_manual.specs.Alt.{Verdict, AllClosed, Commits, NoneReady, MustWait, is_closed_list, chosen, unready, verdict_on, verdict_of, with_woken, decided, with_draw, alt}
 use Rattle.p9_manual.specs.State.{State, done}
@@ -48,20 +48,20 @@ unready_right chans waits me End h = h
 numbered_right : (me : Party) (i : ℕ) (chans : List Channel) (waits : List Waiter) → HasPassing (is_ready chans (parties waits)) me.entries i → WaitRightly chans waits → All IsWithin chans → IsRightVerdict chans waits me (Commits (commit me i chans (parties waits)))
 numbered_right me i chans waits found right within = commit_right me i chans waits found.0 found.1 found.2 right within
 
-verdict_on_right : (word : ℕ) (me : Party) (ending : Ending) (chans : List Channel) (waits : List Waiter) (ns : List ℕ) → All (HasPassing (is_ready chans (parties waits)) me.entries) ns → (ns ≡ [] → list_any (is_ready chans (parties waits)) me.entries ≡ false) → WaitRightly chans waits → All IsWithin chans → IsRightVerdict chans waits me (verdict_on word me ending chans (parties waits) ns)
-verdict_on_right word me ending chans waits [] passes none right within = unready_right chans waits me ending (none refl)
-verdict_on_right word me ending chans waits (i ∷ []) passes none right within =
+verdict_on_right : (draw : ℕ) (me : Party) (ending : Ending) (chans : List Channel) (waits : List Waiter) (ns : List ℕ) → All (HasPassing (is_ready chans (parties waits)) me.entries) ns → (ns ≡ [] → list_any (is_ready chans (parties waits)) me.entries ≡ false) → WaitRightly chans waits → All IsWithin chans → IsRightVerdict chans waits me (verdict_on draw me ending chans (parties waits) ns)
+verdict_on_right draw me ending chans waits [] passes none right within = unready_right chans waits me ending (none refl)
+verdict_on_right draw me ending chans waits (i ∷ []) passes none right within =
     numbered_right me i chans waits (All-head (HasPassing (is_ready chans (parties waits)) me.entries) i [] passes) right within
-verdict_on_right word me ending chans waits (i ∷ j ∷ more) passes none right within =
-    numbered_right me (chosen word (i ∷ j ∷ more)) chans waits
-    (All-get_or (HasPassing (is_ready chans (parties waits)) me.entries) (i ∷ j ∷ more) (word % length (i ∷ j ∷ more)) 0 (omega arith) passes)
+verdict_on_right draw me ending chans waits (i ∷ j ∷ more) passes none right within =
+    numbered_right me (chosen draw (i ∷ j ∷ more)) chans waits
+    (All-get_or (HasPassing (is_ready chans (parties waits)) me.entries) (i ∷ j ∷ more) (draw % length (i ∷ j ∷ more)) 0 (omega arith) passes)
     right within
 
 -- the verdict on an alt in a sound state
-pub verdict_right : (setup : Setup) (t : ℕ) (a : Alternation) (s : State) → IsSound setup s → IsRightVerdict s.chans s.waits (party t s.entries a) (verdict_of setup t a s)
+pub verdict_right : (setup : Setup) (t : ℕ) (a : Alternation) (s : State) → IsSound setup s → IsRightVerdict s.chans s.waits (party t s.position a) (verdict_of setup t a s)
 verdict_right setup t a s sound =
-    if_verdict s.chans s.waits (party t s.entries a) (is_closed_list a.entries) AllClosed _ tt
-    (verdict_on_right _ (party t s.entries a) a.ending s.chans s.waits (ready_entries s.chans (parties s.waits) a.entries) (ready_numbers s.chans (parties s.waits) a.entries)
+    if_verdict s.chans s.waits (party t s.position a) (is_closed_list a.entries) AllClosed _ tt
+    (verdict_on_right _ (party t s.position a) a.ending s.chans s.waits (ready_entries s.chans (parties s.waits) a.entries) (ready_numbers s.chans (parties s.waits) a.entries)
     (no_numbers (is_ready s.chans (parties s.waits)) 0 a.entries) sound.waits_right sound.within)
 
 -- the state with these channels
@@ -92,27 +92,27 @@ drawn_sound setup entries s sound =
       calls = sound.calls;
     }
 
-dealt_fine : (setup : Setup) (t : ℕ) (answer : Answer) (o : Option (ℕ × Answer)) (chans : List Channel) (s : State) → WokenWaits o s.waits → WaitRightly chans (left_by o s.waits) → All IsWithin chans → IsSound setup s → RunsIn s t → IsFine setup s.entries (done t answer (with_woken o (with_chans chans s)))
+dealt_fine : (setup : Setup) (t : ℕ) (answer : Answer) (o : Option (ℕ × Answer)) (chans : List Channel) (s : State) → WokenWaits o s.waits → WaitRightly chans (left_by o s.waits) → All IsWithin chans → IsSound setup s → RunsIn s t → IsFine setup s.position (done t answer (with_woken o (with_chans chans s)))
 dealt_fine setup t answer None chans s waits right within sound runs = done_fine setup (with_chans chans s) t answer (with_chans_sound setup s chans right within sound) runs
 dealt_fine setup t answer (Some w) chans s waits right within sound runs =
     done_fine setup (with_chans chans (with_ready w.0 w.1 s)) t answer
     (with_chans_sound setup (with_ready w.0 w.1 s) chans right within (woken_sound setup s w.0 w.1 waits sound))
     (woken_runs setup s w.0 w.1 t waits sound runs)
 
-decided_fine : (setup : Setup) (t : ℕ) (r : ChanReq) (a : Alternation) (s : State) (v : Verdict) → alternation r ≡ Some a → list_all (fits_entry s.chans) a.entries ≡ true → IsRightVerdict s.chans s.waits (party t s.entries a) v → IsSound setup s → RunsIn s t → IsFine setup s.entries (decided t (ChanRequest r) s v)
+decided_fine : (setup : Setup) (t : ℕ) (r : ChanReq) (a : Alternation) (s : State) (v : Verdict) → alternation r ≡ Some a → list_all (fits_entry s.chans) a.entries ≡ true → IsRightVerdict s.chans s.waits (party t s.position a) v → IsSound setup s → RunsIn s t → IsFine setup s.position (decided t (ChanRequest r) s v)
 decided_fine setup t r a s AllClosed e f h sound runs = done_fine setup s t Closed sound runs
 decided_fine setup t r a s (Commits d) e f h sound runs =
-    moved_fine setup s.entries _ d.moved (dealt_fine setup t d.answer d.woken d.chans s h.woken h.right h.within sound runs)
+    moved_fine setup s.position _ d.moved (dealt_fine setup t d.answer d.woken d.chans s h.woken h.right h.within sound runs)
 decided_fine setup t r a s NoneReady e f h sound runs = done_fine setup s t NoBlock sound runs
 decided_fine setup t r a s MustWait e f h sound runs =
     waiting_fine setup s t (ChanRequest r) (so_far setup s sound) runs
-    (more_rightly s.chans s.waits (wait_of t (ChanRequest r) s) (party t s.entries a) (ap (party_with t s.entries) e) (ap is_some e)
-    (stopped s.chans s.waits (party t s.entries a) sound.waits_right f h) sound.waits_right)
+    (more_rightly s.chans s.waits (wait_of t (ChanRequest r) s) (party t s.position a) (ap (party_with t s.position) e) (ap is_some e)
+    (stopped s.chans s.waits (party t s.position a) sound.waits_right f h) sound.waits_right)
     (pushed_match s.ioprocs s.waits (wait_of t (ChanRequest r) s) (λ k. refl) sound.calls)
 
-pub alt_fine : (setup : Setup) (t : ℕ) (r : ChanReq) (a : Alternation) (s : State) → alternation r ≡ Some a → IsSound setup s → RunsIn s t → IsFine setup s.entries (alt setup t (ChanRequest r) a s)
+pub alt_fine : (setup : Setup) (t : ℕ) (r : ChanReq) (a : Alternation) (s : State) → alternation r ≡ Some a → IsSound setup s → RunsIn s t → IsFine setup s.position (alt setup t (ChanRequest r) a s)
 alt_fine setup t r a s e sound runs =
-    if_fine setup s.entries (fits s.chans a.entries) _ _
+    if_fine setup s.position (fits s.chans a.entries) _ _
     (λ f. decided_fine setup t r a (with_draw a.entries s) (verdict_of setup t a s) e
     (and_parts (nat_le (length a.entries) 64) (list_all (fits_entry s.chans) a.entries) f).1
     (verdict_right setup t a s sound) (drawn_sound setup a.entries s sound) runs)

@@ -33,7 +33,7 @@ created_rightly chans waits chan right =
       | inr ne ↦ right.receives c (sym (ap takes_receives (by_id-push_other chan chans c ne)) ∙ h)
     ])
 
-chans_fine : (setup : Setup) (s : State) (o : Outcome) → DoesToChans s o → IsSound setup s → IsFine setup s.entries o
+chans_fine : (setup : Setup) (s : State) (o : Outcome) → DoesToChans s o → IsSound setup s → IsFine setup s.position o
 chans_fine setup s _ (Tells a) sound = now_fine setup s a sound
 chans_fine setup s _ (MakesChannel cap elsize) sound =
     now_fine setup (with_chans (s.chans ++ empty_channel cap elsize ∷ []) s) (Number (length s.chans + 1))
@@ -45,10 +45,10 @@ chans_fine setup s _ (FreesChannel c chan at) sound =
     (All-changed IsWithin freed_chan (λ x h. h) s.chans (c - 1) sound.within) sound)
 chans_fine setup s _ (ClosesChannel c chan at) sound = close_channel_fine setup c s chan at sound
 
-by_alternation_fine : (setup : Setup) (t : ℕ) (r : ChanReq) (s : State) (o : Option Alternation) → alternation r ≡ o → IsSound setup s → RunsIn s t → IsFine setup s.entries (by_alternation setup t r s o)
+by_alternation_fine : (setup : Setup) (t : ℕ) (r : ChanReq) (s : State) (o : Option Alternation) → alternation r ≡ o → IsSound setup s → RunsIn s t → IsFine setup s.position (by_alternation setup t r s o)
 by_alternation_fine setup t r s None e sound runs = chans_fine setup s _ (on_channel_does r s) sound
 by_alternation_fine setup t r s (Some a) e sound runs = alt_fine setup t r a s e sound runs
 
-pub chan_call_fine : (setup : Setup) (t : ℕ) (r : ChanReq) (s : State) → IsSound setup s → RunsIn s t → IsFine setup s.entries (chan_call setup t r s)
+pub chan_call_fine : (setup : Setup) (t : ℕ) (r : ChanReq) (s : State) → IsSound setup s → RunsIn s t → IsFine setup s.position (chan_call setup t r s)
 unfolding chan_call
 chan_call_fine setup t r s sound runs = by_alternation_fine setup t r s (alternation r) refl sound runs

@@ -8,7 +8,7 @@ use Rattle.p9_manual.specs.declared.state.Channel.{Channel}
 use Rattle.p9_manual.specs.declared.state.Waiter.{Waiter}
 use Rattle.p9_manual.specs.declared.state.Party.{Party}
 use Rattle.p9_manual.specs.Offers.{parties}
-use Rattle.p9_manual.specs.Entries.{sends_on, receives_on, waits_on}
+use Rattle.p9_manual.specs.AltEntries.{sends_on, receives_on, waits_on}
 use Rattle.p9_manual.specs.Close.{closed_chan, failed_on, all_failed, all_woken, close_channel}
 use Rattle.p9_manual.specs.State.{State, by_id, changed, waits_without}
 use Rattle.p9_manual.specs.Standing.{times}
@@ -18,7 +18,7 @@ use Rattle.p9_laws.proofs.Sound.Parties.{is_tid, WaitsInAlt, parties_without, ti
 use Rattle.p9_laws.proofs.Sound.Stand.{eqb_same, eqb_other, eqb_equal}
 use Rattle.p9_laws.proofs.Sound.Entries.{waits_either}
 use Rattle.p9_laws.proofs.Sound.Waits.{changed_rightly}
-use Rattle.p9_laws.proofs.Sound.Outcomes.{IsFine, at_entries, later_sound}
+use Rattle.p9_laws.proofs.Sound.Outcomes.{IsFine, at_position, later_sound}
 use Rattle.p9_laws.proofs.Sound.Woken.{with_ready, party_waits, woken_sound}
 use Rattle.p9_laws.proofs.Sound.Alts.{with_chans, with_chans_sound}
 
@@ -92,7 +92,7 @@ all_woken_sound setup c (w ∷ ws) s h sound =
 
 -- the state with these channels and so many entries
 abbrev with_both : List Channel → ℕ → State → State
-with_both chans n s = record s { chans = chans; entries = n }
+with_both chans n s = record s { chans = chans; position = n }
 
 -- who is woken changes neither
 woken_with : (chans : List Channel) (n : ℕ) → (ws : List (ℕ × Answer)) (s : State) → all_woken ws (with_both chans n s) ≡ with_both chans n (all_woken ws s)
@@ -109,10 +109,10 @@ none_receives c ps h =
     let k = times_fewer (receives_on c) (waits_on c) (λ p e. waits_either c p ∙ or_right (sends_on c p) (receives_on c p) e) ps in
     omega (arith, k, h)
 
-pub close_channel_fine : (setup : Setup) (c : ℕ) (s : State) (chan : Channel) → by_id s.chans c ≡ Some chan → IsSound setup s → IsFine setup s.entries (close_channel c s)
+pub close_channel_fine : (setup : Setup) (c : ℕ) (s : State) (chan : Channel) → by_id s.chans c ≡ Some chan → IsSound setup s → IsFine setup s.position (close_channel c s)
 close_channel_fine setup c s chan at sound =
     record {
-      sound = subst (λ (x : State). IsSound setup (at_entries (s.entries + 1) x)) (sym (woken_with shut s.entries (all_failed c (parties s.waits)) s)) after;
+      sound = subst (λ (x : State). IsSound setup (at_position (s.position + 1) x)) (sym (woken_with shut s.position (all_failed c (parties s.waits)) s)) after;
       makes = refl;
       begins = tt;
     }
@@ -123,8 +123,8 @@ close_channel_fine setup c s chan at sound =
     done : IsSound setup (all_woken (all_failed c (parties s.waits)) s) × (times (waits_on c) (parties (all_woken (all_failed c (parties s.waits)) s).waits) ≡ 0)
     done = all_woken_sound setup c (all_failed c (parties s.waits)) s (λ u. failed_all c u (parties s.waits)) sound
 
-    same : all_woken (all_failed c (parties s.waits)) s ≡ with_both s.chans s.entries (all_woken (all_failed c (parties s.waits)) s)
-    same = woken_with s.chans s.entries (all_failed c (parties s.waits)) s
+    same : all_woken (all_failed c (parties s.waits)) s ≡ with_both s.chans s.position (all_woken (all_failed c (parties s.waits)) s)
+    same = woken_with s.chans s.position (all_failed c (parties s.waits)) s
 
     woken_right : WaitRightly s.chans (all_woken (all_failed c (parties s.waits)) s).waits
     woken_right = subst (λ (x : List Channel). WaitRightly x (all_woken (all_failed c (parties s.waits)) s).waits) (ap (λ x. x.chans) same) done.0.waits_right
@@ -135,5 +135,5 @@ close_channel_fine setup c s chan at sound =
     closed : IsSound setup (with_chans (changed closed_chan s.chans (c - 1)) (all_woken (all_failed c (parties s.waits)) s))
     closed = with_chans_sound setup (all_woken (all_failed c (parties s.waits)) s) (changed closed_chan s.chans (c - 1)) right (All-changed IsWithin closed_chan (λ x h. h) s.chans (c - 1) sound.within) done.0
 
-    after : IsSound setup (with_both (changed closed_chan s.chans (c - 1)) (s.entries + 1) (all_woken (all_failed c (parties s.waits)) s))
-    after = subst (λ (n : ℕ). IsSound setup (with_both (changed closed_chan s.chans (c - 1)) (n + 1) (all_woken (all_failed c (parties s.waits)) s))) (ap (λ x. x.entries) same) (later_sound setup (with_chans (changed closed_chan s.chans (c - 1)) (all_woken (all_failed c (parties s.waits)) s)) closed)
+    after : IsSound setup (with_both (changed closed_chan s.chans (c - 1)) (s.position + 1) (all_woken (all_failed c (parties s.waits)) s))
+    after = subst (λ (n : ℕ). IsSound setup (with_both (changed closed_chan s.chans (c - 1)) (n + 1) (all_woken (all_failed c (parties s.waits)) s))) (ap (λ x. x.position) same) (later_sound setup (with_chans (changed closed_chan s.chans (c - 1)) (all_woken (all_failed c (parties s.waits)) s)) closed)

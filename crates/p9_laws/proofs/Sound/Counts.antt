@@ -46,7 +46,7 @@ every_changed P f k [] i h = tt
 every_changed P f k (x ∷ xs) zero h = (k x h.0, h.1)
 every_changed P f k (x ∷ xs) (suc i) h = (h.0, every_changed P f k xs i h.1)
 
--- what holds of all holds of the one at a place
+-- what holds of all holds of the one at an index
 pub held_at : {A : Type 0} (P : A → Type 0) → (xs : List A) (i : ℕ) (x : A) → AllByRecursion P xs → slice_get xs i ≡ Some x → P x
 held_at P [] i x h e = cc
 held_at P (y ∷ ys) zero x h e = let same : y ≡ x = cc in subst P same h.0

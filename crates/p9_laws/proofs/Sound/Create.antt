@@ -96,12 +96,12 @@ opened_sound setup s room sound =
       calls = sound.calls;
     }
 
-pub made_thread_fine : (setup : Setup) (t program arg : ℕ) (s : State) (caller : Thread) → by_id s.threads t ≡ Some caller → IsBetween 1 setup.programs program → IsSound setup s → IsFine setup s.entries (now (Number (length s.threads + 1)) (with_thread caller.proc_no program arg caller.group s))
+pub made_thread_fine : (setup : Setup) (t program arg : ℕ) (s : State) (caller : Thread) → by_id s.threads t ≡ Some caller → IsBetween 1 setup.programs program → IsSound setup s → IsFine setup s.position (now (Number (length s.threads + 1)) (with_thread caller.proc_no program arg caller.group s))
 made_thread_fine setup t program arg s caller at own sound =
     now_fine setup _ (Number (length s.threads + 1))
     (with_thread_sound setup s caller.proc_no program arg caller.group (member_at s.opened setup.programs s.threads t caller sound.members at).proc_no own sound)
 
-pub made_proc_fine : (setup : Setup) (t program arg : ℕ) (s : State) (caller : Thread) → IsBetween 1 setup.programs program → s.opened < setup.places → IsSound setup s → RunsIn s t → IsFine setup s.entries (done t (Number (length s.threads + 1)) (with_thread (s.opened + 1) program arg caller.group (record s { opened = s.opened + 1 })))
+pub made_proc_fine : (setup : Setup) (t program arg : ℕ) (s : State) (caller : Thread) → IsBetween 1 setup.programs program → s.opened < setup.places → IsSound setup s → RunsIn s t → IsFine setup s.position (done t (Number (length s.threads + 1)) (with_thread (s.opened + 1) program arg caller.group (record s { opened = s.opened + 1 })))
 made_proc_fine setup t program arg s caller own room sound runs =
     done_fine setup _ t (Number (length s.threads + 1))
     (with_thread_sound setup (record s { opened = s.opened + 1 }) (s.opened + 1) program arg caller.group (record { from = omega arith; to = omega arith }) own (opened_sound setup s (omega (arith, room)) sound))

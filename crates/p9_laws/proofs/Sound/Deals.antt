@@ -14,8 +14,8 @@ use Rattle.p9_manual.specs.declared.state.Element.{Element}
 use Rattle.p9_manual.specs.declared.state.Waiter.{Waiter}
 use Rattle.p9_manual.specs.declared.state.Party.{Party}
 use Rattle.p9_manual.specs.Offers.{parties}
-use Rattle.p9_manual.specs.Entries.{sends_on, receives_on}
-use Rattle.p9_manual.specs.Ready.{has_room, has_element, is_unbuffered, can_send, can_go_on, is_ready}
+use Rattle.p9_manual.specs.AltEntries.{sends_on, receives_on}
+use Rattle.p9_manual.specs.ReadyEntries.{has_room, has_element, is_unbuffered, can_send, can_go_on, is_ready}
 use Rattle.p9_manual.specs.Commit.{Deal, holding, with_elements, element, failed, hand_over, pass_on, commit_send, take_over, refilled, sender_woken, receive_from, commit_op, commit_entry, commit}
 use Rattle.p9_manual.specs.Told.{sent_bytes, sender_bytes}
 use Rattle.p9_manual.specs.State.{by_id, waits_without}

@@ -28,7 +28,7 @@ ended_sound setup s t sound runs =
       opened = sound.opened;
       waits_right = without_rightly s.chans s.waits t sound.waits_right;
       within = sound.within;
-      order = filtered_order s.entries s.waits (λ w. not (eqb w.tid t)) sound.order;
+      order = filtered_order s.position s.waits (λ w. not (eqb w.tid t)) sound.order;
       calls = ended_match t s.ioprocs s.waits sound.calls;
     }
 
@@ -93,6 +93,6 @@ all_ended_sound setup s sound =
       opened = sound.opened;
       waits_right = nobody_rightly s.chans;
       within = sound.within;
-      order = nobody_in_order s.entries;
+      order = nobody_in_order s.position;
       calls = nobody_match s.ioprocs sound.calls.messages;
     }

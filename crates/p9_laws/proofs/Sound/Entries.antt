@@ -5,7 +5,7 @@ use Rattle.p9_word.specs.declared.alt.AltOp.{AltOp}
 use Rattle.p9_word.specs.declared.alt.AltOp.TheVariants.{Snd, Rcv, Nop}
 use Rattle.p9_word.specs.declared.alt.AltEntry.{AltEntry}
 use Rattle.p9_manual.specs.declared.state.Party.{Party}
-use Rattle.p9_manual.specs.Entries.{is_snd, is_rcv, is_nop, sends_to, receives_from, is_on, sends_on, receives_on, waits_on}
+use Rattle.p9_manual.specs.AltEntries.{is_snd, is_rcv, is_nop, sends_to, receives_from, is_on, sends_on, receives_on, waits_on}
 use Rattle.p9_manual.specs.Standing.{times}
 
 op_either : (err : Bool) (op : AltOp) (b : Bool) → (not err && (not (is_nop op) && b)) ≡ ((not err && (is_snd op && b)) || (not err && (is_rcv op && b)))

@@ -35,7 +35,7 @@ use Rattle.p9_laws.proofs.Sound.Chans.{chan_call_fine}
 use Rattle.p9_laws.proofs.Sound.Ioprocs.{io_call_fine, io_event_safe}
 use Rattle.p9_laws.proofs.Sound.Next.{next_event_safe}
 
-served_fine : (setup : Setup) (t : ℕ) (r : Request) (s : State) → IsSound setup s → RunsIn s t → IsFine setup s.entries (served setup t r s)
+served_fine : (setup : Setup) (t : ℕ) (r : Request) (s : State) → IsSound setup s → RunsIn s t → IsFine setup s.position (served setup t r s)
 unfolding served
 served_fine setup t (ThreadRequest r) s sound runs = thread_call_fine setup t r s sound runs
 served_fine setup t (ChanRequest r) s sound runs = chan_call_fine setup t r s sound runs

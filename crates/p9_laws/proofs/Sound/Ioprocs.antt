@@ -19,7 +19,7 @@ use Rattle.p9_laws.proofs.Sound.Order.{filtered_order}
 use Rattle.p9_laws.proofs.Sound.Stand.{answered_stands, members_placed}
 use Rattle.p9_laws.proofs.Sound.Waits.{calling_rightly, without_rightly}
 use Rattle.p9_laws.proofs.Sound.Calls.{kept_match, posted_match, begun_waits, done_match}
-use Rattle.p9_laws.proofs.Sound.Outcomes.{IsFine, IsSafe, RunsIn, if_fine, if_safe, same_safe, now_fine, bad_fine, waiting_fine, at_entries, later_sound}
+use Rattle.p9_laws.proofs.Sound.Outcomes.{IsFine, IsSafe, RunsIn, if_fine, if_safe, same_safe, now_fine, bad_fine, waiting_fine, at_position, later_sound}
 
 -- an ioproc that has the same call for the same thread as before
 with_ioproc_sound : (setup : Setup) (s : State) (k : ℕ) (old io : Ioproc) → by_id s.ioprocs k ≡ Some old → call_of (Some io) ≡ call_of (Some old) → message_at (Some io) ≤ message_at (Some old) → IsSound setup s → IsSound setup (with_ioproc k io s)
@@ -34,7 +34,7 @@ with_ioproc_sound setup s k old io e call short sound =
       calls = kept_match s.ioprocs s.waits k old io e call short sound.calls;
     }
 
-make_fine : (setup : Setup) (k : ℕ) (s : State) (o : Option Ioproc) → by_id s.ioprocs k ≡ o → IsSound setup s → IsFine setup s.entries (make k s o)
+make_fine : (setup : Setup) (k : ℕ) (s : State) (o : Option Ioproc) → by_id s.ioprocs k ≡ o → IsSound setup s → IsFine setup s.position (make k s o)
 make_fine setup k s (Some Unmade) e sound = now_fine setup _ (Number k) (with_ioproc_sound setup s k Unmade Idle e refl (omega arith) sound)
 make_fine setup k s (Some Idle) e sound = bad_fine setup s sound
 make_fine setup k s (Some (Posted t call)) e sound = bad_fine setup s sound
@@ -45,19 +45,19 @@ make_fine setup k s None e sound = bad_fine setup s sound
 le_from_ltb : (n m : ℕ) → ltb n m ≡ false → m ≤ n
 le_from_ltb n m h = search (rules, tests)
 
-post_call_fine : (setup : Setup) (t k : ℕ) (call : IoCall) (s : State) (o : Option Ioproc) → by_id s.ioprocs k ≡ o → IsSound setup s → RunsIn s t → IsFine setup s.entries (post_call t k call s o)
+post_call_fine : (setup : Setup) (t k : ℕ) (call : IoCall) (s : State) (o : Option Ioproc) → by_id s.ioprocs k ≡ o → IsSound setup s → RunsIn s t → IsFine setup s.position (post_call t k call s o)
 post_call_fine setup t k call s (Some Idle) e sound runs =
-    if_fine setup s.entries (ltb 4294967295 (message_length call)) _ _ (λ _. bad_fine setup s sound)
+    if_fine setup s.position (ltb 4294967295 (message_length call)) _ _ (λ _. bad_fine setup s sound)
     (λ h. waiting_fine setup (with_ioproc k (Posted t call) s) t _ (record { stand = sound.stand; members = sound.members; opened = sound.opened; within = sound.within; order = sound.order }) runs
-    (calling_rightly s.chans s.waits t k s.entries call sound.waits_right)
-    (posted_match s.ioprocs s.waits t k s.entries call e (le_from_ltb 4294967295 (message_length call) h) sound.calls))
+    (calling_rightly s.chans s.waits t k s.position call sound.waits_right)
+    (posted_match s.ioprocs s.waits t k s.position call e (le_from_ltb 4294967295 (message_length call) h) sound.calls))
 post_call_fine setup t k call s (Some Unmade) e sound runs = bad_fine setup s sound
 post_call_fine setup t k call s (Some (Posted u other)) e sound runs = bad_fine setup s sound
 post_call_fine setup t k call s (Some (Begun u other)) e sound runs = bad_fine setup s sound
 post_call_fine setup t k call s (Some Closed) e sound runs = bad_fine setup s sound
 post_call_fine setup t k call s None e sound runs = bad_fine setup s sound
 
-close_ioproc_fine : (setup : Setup) (k : ℕ) (s : State) (o : Option Ioproc) → by_id s.ioprocs k ≡ o → IsSound setup s → IsFine setup s.entries (close_ioproc k s o)
+close_ioproc_fine : (setup : Setup) (k : ℕ) (s : State) (o : Option Ioproc) → by_id s.ioprocs k ≡ o → IsSound setup s → IsFine setup s.position (close_ioproc k s o)
 close_ioproc_fine setup k s (Some Idle) e sound = now_fine setup _ Done (with_ioproc_sound setup s k Idle Closed e refl (omega arith) sound)
 close_ioproc_fine setup k s (Some Unmade) e sound = bad_fine setup s sound
 close_ioproc_fine setup k s (Some (Posted t call)) e sound = bad_fine setup s sound
@@ -65,7 +65,7 @@ close_ioproc_fine setup k s (Some (Begun t call)) e sound = bad_fine setup s sou
 close_ioproc_fine setup k s (Some Closed) e sound = bad_fine setup s sound
 close_ioproc_fine setup k s None e sound = bad_fine setup s sound
 
-pub io_call_fine : (setup : Setup) (t : ℕ) (r : IoReq) (s : State) → IsSound setup s → RunsIn s t → IsFine setup s.entries (io_call setup t r s)
+pub io_call_fine : (setup : Setup) (t : ℕ) (r : IoReq) (s : State) → IsSound setup s → RunsIn s t → IsFine setup s.position (io_call setup t r s)
 unfolding io_call
 io_call_fine setup t (IoProc k) s sound runs = make_fine setup k s _ refl sound
 io_call_fine setup t (IoRun k call) s sound runs = post_call_fine setup t k call s _ refl sound runs
@@ -84,7 +84,7 @@ take_call_safe setup k s (Some Unmade) e sound =
 take_call_safe setup k s (Some Idle) e sound =
     if_safe setup s (s.over || not (list_any lives s.threads)) _ _ (λ _. same_safe setup s Over refl sound) (λ _. same_safe setup s IdleReply refl sound)
 
-answered_sound : (setup : Setup) (s : State) (k : ℕ) (o : Option ℕ) (call : IoCall) (effect : Effect) → by_id s.ioprocs k ≡ Some (Begun o call) → IsSound setup s → IsSound setup (at_entries (s.entries + 1) (answered o effect (with_ioproc k Idle s)))
+answered_sound : (setup : Setup) (s : State) (k : ℕ) (o : Option ℕ) (call : IoCall) (effect : Effect) → by_id s.ioprocs k ≡ Some (Begun o call) → IsSound setup s → IsSound setup (at_position (s.position + 1) (answered o effect (with_ioproc k Idle s)))
 answered_sound setup s k None call effect e sound = later_sound setup (with_ioproc k Idle s) (with_ioproc_sound setup s k (Begun None call) Idle e refl (omega arith) sound)
 answered_sound setup s k (Some t) call effect e sound =
     later_sound setup (answered (Some t) effect (with_ioproc k Idle s)) (record {
@@ -93,7 +93,7 @@ answered_sound setup s k (Some t) call effect e sound =
       opened = sound.opened;
       waits_right = without_rightly s.chans s.waits t sound.waits_right;
       within = sound.within;
-      order = filtered_order s.entries s.waits (λ w. not (eqb w.tid t)) sound.order;
+      order = filtered_order s.position s.waits (λ w. not (eqb w.tid t)) sound.order;
       calls = done_match s.threads s.line s.waits s.ioprocs t k call e sound.stand sound.calls;
     })
 

@@ -1,4 +1,4 @@
--- The places of the calls in which threads wait, where one more waits or some are taken out.
+-- The positions of the calls in which threads wait, where one more waits or some are taken out.
 use Rattle.std.proofs.Common.{◌≡◌, ℕ, ◌+◌, ◌≤◌, Bool, true, false, cond, List, [], ◌∷◌, ◌++◌, map, refl, ap, arith}
 use Rattle.std.specs.Prelude.{All}
 use Rattle.std.specs.List.{filter, AllByRecursion}
@@ -37,18 +37,18 @@ rising_pushed f y [] below h = (All-nil (λ m. f y + 1 ≤ m), tt)
 rising_pushed f y (x ∷ xs) below h =
     (All-same (λ m. f x + 1 ≤ m) (map f (xs ++ y ∷ [])) (map f xs ++ f y ∷ []) (map-push f y xs) (All-push (λ m. f x + 1 ≤ m) (map f xs) (f y) h.0 below.0), rising_pushed f y xs below.1 h.1)
 
-pub nobody_in_order : (entries : ℕ) → InOrder entries []
-nobody_in_order entries = record { before = All-nil (λ (w : Waiter). w.at + 1 ≤ entries); rising = tt }
+pub nobody_in_order : (position : ℕ) → InOrder position []
+nobody_in_order position = record { before = All-nil (λ (w : Waiter). w.at + 1 ≤ position); rising = tt }
 
 -- without those that pass a test
-pub filtered_order : (entries : ℕ) (waits : List Waiter) (p : Waiter → Bool) → InOrder entries waits → InOrder entries (filter p waits)
-filtered_order entries waits p order =
-    record { before = All-filter p (λ (w : Waiter). w.at + 1 ≤ entries) waits order.before; rising = rising_filtered (λ (w : Waiter). w.at) p waits order.rising }
+pub filtered_order : (position : ℕ) (waits : List Waiter) (p : Waiter → Bool) → InOrder position waits → InOrder position (filter p waits)
+filtered_order position waits p order =
+    record { before = All-filter p (λ (w : Waiter). w.at + 1 ≤ position) waits order.before; rising = rising_filtered (λ (w : Waiter). w.at) p waits order.rising }
 
 -- after one more entry
-pub later_order : (entries : ℕ) (waits : List Waiter) → InOrder entries waits → InOrder (entries + 1) waits
-later_order entries waits order =
-    record { before = All-weaker (λ (w : Waiter). w.at + 1 ≤ entries) (λ (w : Waiter). w.at + 1 ≤ entries + 1) (λ w h. omega arith) waits order.before; rising = order.rising }
+pub later_order : (position : ℕ) (waits : List Waiter) → InOrder position waits → InOrder (position + 1) waits
+later_order position waits order =
+    record { before = All-weaker (λ (w : Waiter). w.at + 1 ≤ position) (λ (w : Waiter). w.at + 1 ≤ position + 1) (λ w h. omega arith) waits order.before; rising = order.rising }
 
 -- with the wait of the call that makes this entry
 pub pushed_order : (waits : List Waiter) (w : Waiter) → InOrder w.at waits → InOrder (w.at + 1) (waits ++ w ∷ [])

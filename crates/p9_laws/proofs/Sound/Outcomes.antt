@@ -22,7 +22,7 @@ pub record IsSoundSoFar (setup : Setup) (s : State) : Type 0 where
   pub members : All (IsThreadIn s.opened setup.programs) s.threads
   pub opened : s.opened ≤ setup.places
   pub within : All IsWithin s.chans
-  pub order : InOrder s.entries s.waits
+  pub order : InOrder s.position s.waits
 
 pub so_far : (setup : Setup) (s : State) → IsSound setup s → IsSoundSoFar setup s
 so_far setup s sound = record { stand = sound.stand; members = sound.members; opened = sound.opened; within = sound.within; order = sound.order }
@@ -33,26 +33,26 @@ BeginsOneOf programs (Begin t program arg) = IsBetween 1 programs program
 BeginsOneOf programs reply = Unit {0}
 
 -- the state where the number of entries has grown to this
-abbrev pub at_entries : ℕ → State → State
-at_entries n s = record s { entries = n }
+abbrev pub at_position : ℕ → State → State
+at_position n s = record s { position = n }
 
 -- what the outcome of a request of a thread that runs owes, where n entries were made before it: a sound state once the
 -- entry is made, and an entry; no thread begins
 pub record IsFine (setup : Setup) (n : ℕ) (o : Outcome) : Type 0 where
-  pub sound : IsSound setup (at_entries (n + 1) o.state)
+  pub sound : IsSound setup (at_position (n + 1) o.state)
   pub makes : makes_entry o.reply ≡ true
   pub begins : BeginsOneOf setup.programs o.reply
 
 -- what the outcome of any event owes: a sound state once an entry is made, and one of the programs where a thread begins
 pub record IsSafe (setup : Setup) (s : State) (o : Outcome) : Type 0 where
-  pub sound : IsSound setup (at_entries (s.entries + 1) o.state)
+  pub sound : IsSound setup (at_position (s.position + 1) o.state)
   pub begins : BeginsOneOf setup.programs o.reply
 
-pub fine_safe : (setup : Setup) (s : State) (o : Outcome) → IsFine setup s.entries o → IsSafe setup s o
+pub fine_safe : (setup : Setup) (s : State) (o : Outcome) → IsFine setup s.position o → IsSafe setup s o
 fine_safe setup s o f = record { sound = f.sound; begins = f.begins }
 
 -- a sound state is sound after one more entry
-pub later_sound : (setup : Setup) (s : State) → IsSound setup s → IsSound setup (at_entries (s.entries + 1) s)
+pub later_sound : (setup : Setup) (s : State) → IsSound setup s → IsSound setup (at_position (s.position + 1) s)
 later_sound setup s sound =
     record {
       stand = sound.stand;
@@ -60,7 +60,7 @@ later_sound setup s sound =
       opened = sound.opened;
       waits_right = sound.waits_right;
       within = sound.within;
-      order = later_order s.entries s.waits sound.order;
+      order = later_order s.position s.waits sound.order;
       calls = sound.calls;
     }
 
@@ -87,10 +87,10 @@ if_safe setup s false o p f g = g refl
 abbrev pub RunsIn : State → ℕ → Type 0
 RunsIn s t = place_of s.threads t ≡ Running
 
-pub now_fine : (setup : Setup) (s : State) (a : Answer) → IsSound setup s → IsFine setup s.entries (now a s)
+pub now_fine : (setup : Setup) (s : State) (a : Answer) → IsSound setup s → IsFine setup s.position (now a s)
 now_fine setup s a sound = record { sound = later_sound setup s sound; makes = refl; begins = tt }
 
-pub bad_fine : (setup : Setup) (s : State) → IsSound setup s → IsFine setup s.entries (bad s)
+pub bad_fine : (setup : Setup) (s : State) → IsSound setup s → IsFine setup s.position (bad s)
 bad_fine setup s sound = record { sound = later_sound setup s sound; makes = refl; begins = tt }
 
 readied_sound : (setup : Setup) (s : State) (t : ℕ) (a : Answer) → IsSound setup s → RunsIn s t → IsSound setup (readied t a s)
@@ -105,15 +105,15 @@ readied_sound setup s t a sound runs =
       calls = sound.calls;
     }
 
-pub done_fine : (setup : Setup) (s : State) (t : ℕ) (a : Answer) → IsSound setup s → RunsIn s t → IsFine setup s.entries (done t a s)
+pub done_fine : (setup : Setup) (s : State) (t : ℕ) (a : Answer) → IsSound setup s → RunsIn s t → IsFine setup s.position (done t a s)
 done_fine setup s t a sound runs = record { sound = later_sound setup (readied t a s) (readied_sound setup s t a sound runs); makes = refl; begins = tt }
 
 -- the wait of the caller's request
 abbrev pub wait_of : ℕ → Request → State → Waiter
-wait_of t r s = record { tid = t; request = r; at = s.entries }
+wait_of t r s = record { tid = t; request = r; at = s.position }
 
 -- the caller waits, where its wait may stand behind the others
-pub waiting_fine : (setup : Setup) (s : State) (t : ℕ) (r : Request) → IsSoundSoFar setup s → RunsIn s t → WaitRightly s.chans (s.waits ++ wait_of t r s ∷ []) → CallsMatch s.ioprocs (s.waits ++ wait_of t r s ∷ []) → IsFine setup s.entries (waiting t r s)
+pub waiting_fine : (setup : Setup) (s : State) (t : ℕ) (r : Request) → IsSoundSoFar setup s → RunsIn s t → WaitRightly s.chans (s.waits ++ wait_of t r s ∷ []) → CallsMatch s.ioprocs (s.waits ++ wait_of t r s ∷ []) → IsFine setup s.position (waiting t r s)
 waiting_fine setup s t r sound runs right match' =
     record {
       sound = record {

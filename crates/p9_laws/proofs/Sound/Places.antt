@@ -58,7 +58,7 @@ get_step : {A : Type 0} (b : Bool) (o : Option A) (x : A) → cond b o None ≡ 
 get_step true o x h = h
 get_step false o x h = cc
 
--- the item with this id, from its place in the list
+-- the item with this id, from its index in the list
 pub get_from_by_id : {A : Type 0} (xs : List A) (t : ℕ) (x : A) → by_id xs t ≡ Some x → slice_get xs (t - 1) ≡ Some x
 get_from_by_id xs t x e = get_step (ltb 0 t) (slice_get xs (t - 1)) x e
 

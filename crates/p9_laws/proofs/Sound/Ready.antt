@@ -10,8 +10,8 @@ use Rattle.p9_word.specs.declared.alt.Slot.{Slot}
 use Rattle.p9_word.specs.declared.alt.AltEntry.{AltEntry}
 use Rattle.p9_manual.specs.declared.state.Channel.{Channel}
 use Rattle.p9_manual.specs.declared.state.Party.{Party}
-use Rattle.p9_manual.specs.Entries.{is_snd, is_rcv, is_nop, sends_to, receives_from}
-use Rattle.p9_manual.specs.Ready.{can_send, can_receive, can_go_on, is_ready, numbers_of, ready_entries, unfreed, goes_with, fits_channel, fits_entry}
+use Rattle.p9_manual.specs.AltEntries.{is_snd, is_rcv, is_nop, sends_to, receives_from}
+use Rattle.p9_manual.specs.ReadyEntries.{can_send, can_receive, can_go_on, is_ready, numbers_of, ready_entries, unfreed, goes_with, fits_channel, fits_entry}
 use Rattle.p9_manual.specs.State.{by_id}
 
 -- entry k of those that are counted on from i passes

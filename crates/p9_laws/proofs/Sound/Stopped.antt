@@ -6,8 +6,8 @@ use Rattle.p9_manual.specs.declared.state.Channel.{Channel}
 use Rattle.p9_manual.specs.declared.state.Waiter.{Waiter}
 use Rattle.p9_manual.specs.declared.state.Party.{Party}
 use Rattle.p9_manual.specs.Offers.{parties}
-use Rattle.p9_manual.specs.Entries.{sends_on, receives_on}
-use Rattle.p9_manual.specs.Ready.{has_room, has_element, is_unbuffered, can_send, can_receive, is_ready, fits_entry}
+use Rattle.p9_manual.specs.AltEntries.{sends_on, receives_on}
+use Rattle.p9_manual.specs.ReadyEntries.{has_room, has_element, is_unbuffered, can_send, can_receive, is_ready, fits_entry}
 use Rattle.p9_manual.specs.State.{by_id}
 use Rattle.p9_manual.specs.Standing.{times}
 use Rattle.p9_manual.specs.Sound.{WaitRightly, takes_sends, takes_receives}

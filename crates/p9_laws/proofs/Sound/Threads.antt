@@ -13,7 +13,7 @@ use Rattle.p9_laws.proofs.Sound.Create.{made_thread_fine, made_proc_fine}
 use Rattle.p9_laws.proofs.Sound.Ends.{ended_sound, all_ended_sound}
 use Rattle.p9_laws.proofs.Sound.Fields.{with_changed_sound}
 
-asked_fine : (setup : Setup) (t : ℕ) (s : State) (o : Outcome) → Does setup t s o → IsSound setup s → RunsIn s t → IsFine setup s.entries o
+asked_fine : (setup : Setup) (t : ℕ) (s : State) (o : Outcome) → Does setup t s o → IsSound setup s → RunsIn s t → IsFine setup s.position o
 asked_fine setup t s _ (Answers a) sound runs = now_fine setup s a sound
 asked_fine setup t s _ (ChangesCaller f caller a at leaves grants) sound runs = now_fine setup _ a (with_changed_sound setup f t s leaves sound)
 asked_fine setup t s _ (ChangesProcs procs a grants) sound runs =
@@ -24,5 +24,5 @@ asked_fine setup t s _ GivesWay sound runs = done_fine setup s t Done sound runs
 asked_fine setup t s _ Ends sound runs = record { sound = later_sound setup (ended t s) (ended_sound setup s t sound runs); makes = refl; begins = tt }
 asked_fine setup t s _ EndsAll sound runs = record { sound = later_sound setup (all_ended s) (all_ended_sound setup s sound); makes = refl; begins = tt }
 
-pub thread_call_fine : (setup : Setup) (t : ℕ) (r : ThreadReq) (s : State) → IsSound setup s → RunsIn s t → IsFine setup s.entries (thread_call setup t r s)
+pub thread_call_fine : (setup : Setup) (t : ℕ) (r : ThreadReq) (s : State) → IsSound setup s → RunsIn s t → IsFine setup s.position (thread_call setup t r s)
 thread_call_fine setup t r s sound runs = asked_fine setup t s _ (thread_call_does setup t r s) sound runs

@@ -9,7 +9,7 @@ use Rattle.p9_manual.specs.declared.state.Channel.{Channel}
 use Rattle.p9_manual.specs.declared.state.Waiter.{Waiter}
 use Rattle.p9_manual.specs.declared.state.Party.{Party}
 use Rattle.p9_manual.specs.Offers.{parties, party_of}
-use Rattle.p9_manual.specs.Entries.{sends_on, receives_on, waits_on}
+use Rattle.p9_manual.specs.AltEntries.{sends_on, receives_on, waits_on}
 use Rattle.p9_manual.specs.State.{by_id, changed, waits_without}
 use Rattle.p9_manual.specs.Standing.{times}
 use Rattle.p9_manual.specs.Sound.{WaitRightly, can_wait, takes_sends, takes_receives}

@@ -32,7 +32,7 @@ woken_sound setup s t a h sound =
       opened = sound.opened;
       waits_right = without_rightly s.chans s.waits t sound.waits_right;
       within = sound.within;
-      order = filtered_order s.entries s.waits (λ w. not (eqb w.tid t)) sound.order;
+      order = filtered_order s.position s.waits (λ w. not (eqb w.tid t)) sound.order;
       calls = without_match s.ioprocs s.waits t (let once = here.1 in omega (arith, once, h)) sound.calls;
     }
 

@@ -36,8 +36,8 @@ pub struct MemFiles {
     faults: u64,
 }
 
-/// The place of the path's entry.
-fn place(held: &[Held], path: &[u8]) -> Option<usize>
+/// The index of the path's entry.
+fn index_of(held: &[Held], path: &[u8]) -> Option<usize>
     ensures without { MatchOption result (without held.now path.now ≡ held.now) (λ i. without held.now path.now ≡ remove held.now i) }
     ensures within { MatchOption result (0 ≤ 0) (λ i. i < length held.now) }
 {
@@ -66,7 +66,7 @@ fn put(alloc: Global, held: &mut Vec<Held>, path: &[u8], bytes: Msg) -> Result<(
     ensures ok { OnOk result (held.new.items ≡ entry path.now bytes ∷ without held.old.items path.now) }
     ensures err { OnErr result (held.new.items ≡ held.old.items) }
 {
-    let old = place(held.as_slice(), path);
+    let old = index_of(held.as_slice(), path);
     let path = Msg::from_slice(alloc, path)?;
     held.insert(0, Held { path, bytes })?;
     if let Some(i) = old {

@@ -48,8 +48,8 @@ fn is_for(plan: &Plan, path: &[u8], fail: PathFail) -> bool
     plan.path.as_slice() == path && plan.fail.is(fail)
 }
 
-/// The place of the first plan of this path and this failure.
-fn place(plans: &[Plan], path: &[u8], fail: PathFail) -> Option<usize>
+/// The index of the first plan of this path and this failure.
+fn index_of(plans: &[Plan], path: &[u8], fail: PathFail) -> Option<usize>
     ensures planned { MatchOption result (is_planned plans.now path.now fail ≡ false) (λ i. is_planned plans.now path.now fail ≡ true) }
     ensures spent { let left = spent plans.now path.now fail in MatchOption result (left ≡ plans.now) (λ i. left ≡ remove plans.now i) }
     ensures within { MatchOption result (0 ≤ 0) (λ i. i < length plans.now) }
@@ -68,7 +68,7 @@ pub(crate) fn spend(plans: &mut Vec<Plan>, path: &[u8], fail: PathFail) -> bool
     ensures spent { plans.new.items ≡ spent plans.old.items path.now fail }
     ensures kept { result ≡ false → plans.new.items ≡ plans.old.items }
 {
-    match place(plans.as_slice(), path, fail) {
+    match index_of(plans.as_slice(), path, fail) {
         Some(i) => {
             let _spent = plans.remove(i);
             true

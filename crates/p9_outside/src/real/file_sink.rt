@@ -5,7 +5,7 @@ ghost use Rattle.p9_outside.specs.Counts.{raised};
 ghost use Rattle.p9_outside.specs.Adapters.{closed_count};
 
 use crate::real::closings::Closings;
-use crate::real::place::Place;
+use crate::real::location::Location;
 use crate::{Failed, Sink, StdSink};
 use std::fs::File;
 use std::io;
@@ -21,14 +21,14 @@ use std::rt::Files;
 pub struct FileSink<'a, R: Files<File = File>> {
     rt: &'a R,
     sink: StdSink<File>,
-    place: Place,
+    location: Location,
 }
 
 impl<'a, R: Files<File = File>> Drop for FileSink<'a, R> {
     fn drop(self) {
-        let FileSink { rt, sink, place } = self;
+        let FileSink { rt, sink, location } = self;
         drop(sink);
-        if let Place::Beside(temporary) = place {
+        if let Location::Beside(temporary) = location {
             temporary.remove(rt);
         }
     }
@@ -37,14 +37,14 @@ impl<'a, R: Files<File = File>> Drop for FileSink<'a, R> {
 impl<'a, R: Files<File = File>> FileSink<'a, R> {
     ghost use Rattle.p9_outside.specs.Adapters.{file_taken, file_faults};
 
-    pub(crate) fn new(rt: &'a R, file: File, place: Place) -> FileSink<'a, R>
+    pub(crate) fn new(rt: &'a R, file: File, location: Location) -> FileSink<'a, R>
         ensures faults { file_faults result ≡ 0 }
         ensures taken { file_taken result ≡ 0 }
     {
         FileSink {
             rt,
             sink: StdSink::new(file),
-            place,
+            location,
         }
     }
 
@@ -65,13 +65,13 @@ impl<'a, R: Files<File = File>> FileSink<'a, R> {
         if self.sink.fault_count() > 0 {
             return Err(io::Error::from(ErrorKind::Other));
         }
-        let FileSink { rt, sink, place } = self;
+        let FileSink { rt, sink, location } = self;
         let length = sink.taken();
         let file = sink.into_inner();
-        match place {
-            Place::Beside(temporary) => temporary.take_place(rt, file, closings),
-            Place::Over => let_go_cut(file, length, closings),
-            Place::On => {
+        match location {
+            Location::Beside(temporary) => temporary.replace_target(rt, file, closings),
+            Location::Over => let_go_cut(file, length, closings),
+            Location::On => {
                 closings.let_go(file);
                 Ok(())
             }

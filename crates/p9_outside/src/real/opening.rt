@@ -1,7 +1,7 @@
 ghost use Rattle.std.specs.Prelude.{◌≡◌, IfOk};
 ghost use Rattle.p9_outside.specs.Adapters.{file_taken};
 
-use crate::real::place::Place;
+use crate::real::location::Location;
 use crate::real::temporary::Temporary;
 use crate::{FileSink, StdSource};
 use std::alloc::Global;
@@ -46,13 +46,13 @@ pub(crate) fn open_sink<'a, R: Files<File = File>>(
     let path = path_text(path)?;
     let Some(target) = followed(rt, alloc, path)? else {
         let file = OpenOptions::new().append(true).open(rt, path)?;
-        return Ok(FileSink::new(rt, file, Place::On));
+        return Ok(FileSink::new(rt, file, Location::On));
     };
     match fs::metadata(rt, target.as_str()) {
         Ok(old) if old.is_file() => replacing(rt, alloc, target, &old),
         Ok(_) => {
             let file = OpenOptions::new().write(true).open(rt, target.as_str())?;
-            Ok(FileSink::new(rt, file, Place::On))
+            Ok(FileSink::new(rt, file, Location::On))
         }
         Err(error) if error.kind() == ErrorKind::NotFound => making(rt, alloc, target),
         Err(error) => Err(error),
@@ -71,8 +71,8 @@ fn replacing<'a, R: Files<File = File>>(
 {
     let file = OpenOptions::new().write(true).open(rt, target.as_str())?;
     match Temporary::instead(rt, alloc, target, old) {
-        Ok((beside, temporary)) => Ok(FileSink::new(rt, beside, Place::Beside(temporary))),
-        Err(error) if is_refusal(error.kind()) => Ok(FileSink::new(rt, file, Place::Over)),
+        Ok((beside, temporary)) => Ok(FileSink::new(rt, beside, Location::Beside(temporary))),
+        Err(error) if is_refusal(error.kind()) => Ok(FileSink::new(rt, file, Location::Over)),
         Err(error) => Err(error),
     }
 }
@@ -99,7 +99,7 @@ fn making<'a, R: Files<File = File>>(
     ensures { IfOk result (λ s. file_taken s ≡ 0) }
 {
     let (file, temporary) = Temporary::fresh(rt, alloc, target)?;
-    Ok(FileSink::new(rt, file, Place::Beside(temporary)))
+    Ok(FileSink::new(rt, file, Location::Beside(temporary)))
 }
 
 /// The path that links end at, whether a file is there or not. A path that is no link is itself. None

@@ -61,7 +61,7 @@ impl Temporary {
         old: &Metadata,
     ) -> io::Result<(File, Temporary)> {
         let (file, name) = made(rt, alloc, target.as_str(), 0o600)?;
-        let replaces = old.nlink() <= 1 && take_on(&file, old).is_ok();
+        let replaces = old.nlink() <= 1 && copy_attributes(&file, old).is_ok();
         let temporary = Temporary {
             name,
             target,
@@ -72,7 +72,7 @@ impl Temporary {
 
     /// Gives the target the contents of the file. Where there was an old file the new contents are on the
     /// disk first, so that a power cut loses neither. The file's name is gone then, also after an error.
-    pub(crate) fn take_place<R: Files<File = File>>(
+    pub(crate) fn replace_target<R: Files<File = File>>(
         self,
         rt: &R,
         file: File,
@@ -134,7 +134,7 @@ impl Temporary {
 ///
 /// Where the owner or the group isn't allowed, the new file runs as nobody but its caller; and where the
 /// group isn't, a group and all others may do what both might.
-fn take_on(file: &File, old: &Metadata) -> io::Result<()> {
+fn copy_attributes(file: &File, old: &Metadata) -> io::Result<()> {
     let new = file.metadata()?;
     let has_owner = new.uid() == old.uid() || fchown(file, Some(old.uid()), None).is_ok();
     let has_group = new.gid() == old.gid() || fchown(file, None, Some(old.gid())).is_ok();

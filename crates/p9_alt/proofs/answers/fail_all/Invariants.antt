@@ -1,6 +1,6 @@
 use Rattle.std.proofs.Common.{◌≡◌, ◌≤◌, ◌++◌, map, take, drop}
 use Rattle.std.specs.Prelude.{count_by}
-use Rattle.p9_manual.specs.Entries.{waits_on}
+use Rattle.p9_manual.specs.AltEntries.{waits_on}
 use Rattle.p9_manual.specs.Close.{all_failed}
 use Rattle.p9_alt.specs.Exchange.{pair_of}
 use Rattle.p9_alt.proofs.answers.fail_all.Given as goal

@@ -2,10 +2,10 @@ use Rattle.std.proofs.Common.{sym, ◌∙◌, ap, ◌≡◌}
 use Rattle.std.specs.Prelude.{Option, None}
 use Rattle.std.specs.List.{find}
 use Rattle.p9_manual.specs.declared.state.Party.{Party}
-use Rattle.p9_manual.specs.Entries.{receives_on}
+use Rattle.p9_manual.specs.AltEntries.{receives_on}
 use Rattle.p9_chan.specs.Channels.{chan_of, elements_in, refilled}
 use Rattle.p9_alt.specs.Passing.{passed_rest}
-use Rattle.p9_alt.proofs.Places.{refilled_same}
+use Rattle.p9_alt.proofs.Changes.{refilled_same}
 use Rattle.p9_alt.proofs.commit.pass_on.Goals as goal
 
 pub returns-in_err-w-clause-chans : goal.returns-in_err-w-clause-chans

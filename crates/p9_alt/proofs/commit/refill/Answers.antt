@@ -3,9 +3,9 @@ use Rattle.std.specs.Prelude.{Option, None}
 use Rattle.std.specs.List.{find}
 use Rattle.p9_manual.specs.declared.state.Party.{Party}
 use Rattle.p9_manual.specs.Commit.{refilled as refilled_with}
-use Rattle.p9_manual.specs.Entries.{sends_on}
+use Rattle.p9_manual.specs.AltEntries.{sends_on}
 use Rattle.p9_chan.specs.Channels.{chan_of, elements_in, elsize_in, refilled}
-use Rattle.p9_alt.proofs.Places.{refilled_same}
+use Rattle.p9_alt.proofs.Changes.{refilled_same}
 use Rattle.p9_alt.proofs.Deals.{none_given}
 use Rattle.p9_alt.proofs.commit.refill.Goals as goal
 

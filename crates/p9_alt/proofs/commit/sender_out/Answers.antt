@@ -1,5 +1,5 @@
 use Rattle.std.proofs.Common.{sym}
-use Rattle.p9_manual.specs.Entries.{sends_on}
+use Rattle.p9_manual.specs.AltEntries.{sends_on}
 use Rattle.p9_alt.proofs.Deals.{find_passes}
 use Rattle.p9_alt.proofs.commit.sender_out.Goals as goal
 

@@ -3,7 +3,7 @@ use Rattle.p9_word.specs.declared.alt.AltEntry.{AltEntry}
 use Rattle.p9_word.specs.declared.alt.Slot.{Slot}
 use Rattle.std.specs.Prelude.{Some, slice_get}
 use Rattle.p9_manual.specs.Told.{sent_bytes}
-use Rattle.p9_manual.specs.Entries.{sends_to, first_number}
+use Rattle.p9_manual.specs.AltEntries.{sends_to, first_number}
 use Rattle.p9_alt.proofs.Numbers.{first_within, slot_there}
 use Rattle.p9_alt.proofs.entries.value_out.Goals as goal
 

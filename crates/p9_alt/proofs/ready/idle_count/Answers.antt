@@ -1,6 +1,6 @@
 use Rattle.std.proofs.Common.{List, length, ap, ◌∙◌}
 use Rattle.p9_manual.specs.declared.state.Party.{Party}
-use Rattle.p9_manual.specs.Ready.{ready_entries}
+use Rattle.p9_manual.specs.ReadyEntries.{ready_entries}
 use Rattle.p9_alt.proofs.Waits.{others_all}
 use Rattle.p9_alt.proofs.ready.idle_count.Goals as goal
 

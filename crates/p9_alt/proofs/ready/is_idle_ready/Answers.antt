@@ -1,6 +1,6 @@
 use Rattle.std.proofs.Common.{List, ap, ◌∙◌}
 use Rattle.p9_manual.specs.declared.state.Party.{Party}
-use Rattle.p9_manual.specs.Ready.{is_ready}
+use Rattle.p9_manual.specs.ReadyEntries.{is_ready}
 use Rattle.p9_alt.proofs.Waits.{others_all}
 use Rattle.p9_alt.proofs.ready.is_idle_ready.Goals as goal
 

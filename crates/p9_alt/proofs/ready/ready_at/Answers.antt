@@ -1,5 +1,5 @@
 use Rattle.std.proofs.Common.{sym, ◌∙◌}
-use Rattle.p9_manual.specs.Ready.{is_ready}
+use Rattle.p9_manual.specs.ReadyEntries.{is_ready}
 use Rattle.p9_alt.proofs.Numbers.{ready_step, ready_skip}
 use Rattle.p9_alt.proofs.ready.ready_at.Goals as goal
 use Rattle.p9_alt.proofs.ready.ready_at.Goals.{then-is_idle_ready+else-left-eq0, else-is_idle_ready}

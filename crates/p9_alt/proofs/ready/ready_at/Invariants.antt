@@ -1,5 +1,5 @@
 use Rattle.std.proofs.Common.{◌≡◌, ◌<◌, length, drop, get_or}
-use Rattle.p9_manual.specs.Ready.{is_ready, numbers_of}
+use Rattle.p9_manual.specs.ReadyEntries.{is_ready, numbers_of}
 use Rattle.p9_alt.proofs.ready.ready_at.Given as goal
 
 -- the entry is one of those from i on, behind so many that are ready

@@ -1,5 +1,5 @@
 use Rattle.std.proofs.Common.{arith}
-use Rattle.p9_manual.specs.Ready.{is_ready}
+use Rattle.p9_manual.specs.ReadyEntries.{is_ready}
 use Rattle.p9_alt.specs.Exchange.{others}
 use Rattle.p9_alt.proofs.Numbers.{count_yes, count_no}
 use Rattle.p9_alt.proofs.ready.ready_count.Goals as goal

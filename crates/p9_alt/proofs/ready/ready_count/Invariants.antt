@@ -1,5 +1,5 @@
 use Rattle.std.proofs.Common.{◌≡◌, ◌≤◌, length, take}
-use Rattle.p9_manual.specs.Ready.{ready_entries}
+use Rattle.p9_manual.specs.ReadyEntries.{ready_entries}
 use Rattle.p9_alt.specs.Exchange.{others}
 use Rattle.p9_alt.proofs.ready.ready_count.Given as goal
 

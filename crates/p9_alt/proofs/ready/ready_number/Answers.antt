@@ -1,4 +1,4 @@
-use Rattle.p9_manual.specs.Ready.{is_ready}
+use Rattle.p9_manual.specs.ReadyEntries.{is_ready}
 use Rattle.p9_alt.proofs.Numbers.{only_number, only_ready}
 use Rattle.p9_alt.proofs.ready.ready_number.Goals as goal
 

@@ -1,7 +1,7 @@
 use Rattle.std.proofs.Common.{ap, ◌∙◌}
 use Rattle.p9_word.specs.declared.alt.AltEntry.{AltEntry}
 use Rattle.std.proofs.Common.{List}
-use Rattle.p9_manual.specs.Entries.{sends_to, first_slot}
+use Rattle.p9_manual.specs.AltEntries.{sends_to, first_slot}
 use Rattle.p9_alt.specs.Exchange.{zeros_in, zeros_of}
 use Rattle.p9_alt.proofs.ready.sender_zeros.Goals as goal
 

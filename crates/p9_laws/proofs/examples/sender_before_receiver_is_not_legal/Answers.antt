@@ -2,7 +2,7 @@ use Rattle.std.proofs.Common.{◌≡◌, refl, inl}
 use Rattle.p9_word.specs.declared.answer.Answer.TheVariants.{Sent, Got}
 use Rattle.p9_word.specs.declared.trail.Reply.TheVariants.{Turn}
 use Rattle.p9_laws.specs.CopySetup.{hi}
-use Rattle.p9_laws.specs.Entries.{turns}
+use Rattle.p9_laws.specs.Shorthand.{turns}
 use Rattle.p9_manual.specs.History.{state_after}
 use Rattle.p9_manual.specs.Step.{step, outcome, called, served}
 use Rattle.p9_manual.specs.Threads.{thread_call, asked}

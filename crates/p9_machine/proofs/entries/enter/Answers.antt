@@ -4,7 +4,7 @@ use Rattle.p9_word.specs.declared.trail.Event.{Event}
 use Rattle.p9_word.specs.declared.trail.Seat.{Seat}
 use Rattle.p9_manual.specs.Step.{outcome}
 use Rattle.p9_machine.specs.Board.{Gives}
-use Rattle.p9_machine.specs.Ready.{event_of}
+use Rattle.p9_machine.specs.Reserved.{event_of}
 use Rattle.p9_machine.proofs.Staying.{counts}
 use Rattle.p9_machine.proofs.entries.enter.Goals as goal
 
@@ -17,4 +17,4 @@ returns-clause-does c = λ s st sound.
     let by_needs = c.outcome-reply.ensures.gives s st sound in
     let by_seat = subst (λ (x : Seat). Gives s (outcome c.args.board.now.setup x (event_of c.args.reserved.needs) s) c.outcome-reply.result c.outcome-reply.new.board) m.seat_is by_needs in
     let by_event = subst (λ (x : Event). Gives s (outcome c.args.board.now.setup c.args.seat x s) c.outcome-reply.result c.outcome-reply.new.board) m.event_is by_seat in
-    counts c.args.board.now.setup c.args.seat c.args.event c.outcome-reply.new.board s c.outcome-reply.result c.args.entries.now.items _ (st.entries ∙ c.requires.counted) (ap (λ (es : List Entry). length es) (c.as_slice.ensures ∙ c.put_entry.ensures.entries)) by_event
+    counts c.args.board.now.setup c.args.seat c.args.event c.outcome-reply.new.board s c.outcome-reply.result c.args.entries.now.items _ (st.position ∙ c.requires.counted) (ap (λ (es : List Entry). length es) (c.as_slice.ensures ∙ c.put_entry.ensures.entries)) by_event

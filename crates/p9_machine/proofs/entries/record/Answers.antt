@@ -8,5 +8,5 @@ use Rattle.p9_machine.proofs.entries.record.Goals as goal
 
 pub returns-in-Proc-clause-does : goal.returns-in-Proc-clause-does
 returns-in-Proc-clause-does c = λ s st sound.
-    rw c.in-Proc.is (counts c.args.board.now.setup (Proc c.in-Proc.field-0) (IoDid c.args.effect) c.args.board.now s Stray c.args.entries.now.items c.args.board.now.entries (st.entries ∙ c.requires.counted) c.requires.counted
+    rw c.in-Proc.is (counts c.args.board.now.setup (Proc c.in-Proc.field-0) (IoDid c.args.effect) c.args.board.now s Stray c.args.entries.now.items c.args.board.now.position (st.position ∙ c.requires.counted) c.requires.counted
     (gives_by _ s _ _ Stray (tells_nothing c.args.board.now.setup c.in-Proc.field-0 c.args.effect s) (unmoved c.args.board.now s Stray refl st)))

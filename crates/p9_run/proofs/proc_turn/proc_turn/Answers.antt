@@ -1,6 +1,6 @@
 use Rattle.std.proofs.Common.{rules, arith, ◌<◌, length}
 use Rattle.p9_manual.specs.Programs.{RunsPrograms}
-use Rattle.p9_run.proofs.Slots.{slot_within}
+use Rattle.p9_run.proofs.BodiesByThread.{body_within}
 use Rattle.p9_run.proofs.Turns.{begins, turns, quiet, runs_on}
 use Rattle.p9_run.proofs.Untouched.{touches_with, touches_none, touches_trans}
 use Rattle.p9_run.proofs.proc_turn.proc_turn.Goals as goal
@@ -33,7 +33,7 @@ run_thread-requires-clause-turn g c κs within =
 
 pub run_thread-requires-clause-room : goal.run_thread-requires-clause-room
 run_thread-requires-clause-room g c κs within =
-    let h : c.in-Turn.tid < length c.args.bodies.now.slots.items = slot_within c.args.bodies.now.slots.items c.in-Turn.tid c.in-Some.body c.in-Some.ensures.body in
+    let h : c.in-Turn.tid < length c.args.bodies.now.by_thread.items = body_within c.args.bodies.now.by_thread.items c.in-Turn.tid c.in-Some.body c.in-Some.ensures.body in
     omega (arith, h, c.take.ensures.room)
 
 pub returns-in_err-run_thread-in-Turn-clause-files : goal.returns-in_err-run_thread-in-Turn-clause-files

@@ -22,7 +22,7 @@ pub returns-in-Waits-clause-ok : goal.returns-in-Waits-clause-ok
 returns-in-Waits-clause-ok g c =
     let said = c.in_ok-request.ensures in
     let entries = rw c.in-Waits.is at c.in_ok-answer.ensures.entries in
-    rw entries (call_waits _ _ _ _ _ _ _ _ _ _ _ _ c.loop.invariant.turn (record { plan_is = said.plan; request_is = said.request; stands_on = said.stands }) c.put.ensures.slots)
+    rw entries (call_waits _ _ _ _ _ _ _ _ _ _ _ _ c.loop.invariant.turn (record { plan_is = said.plan; request_is = said.request; stands_on = said.stands }) c.put.ensures.bodies)
 
 pub returns-in-Ended-clause-ok : goal.returns-in-Ended-clause-ok
 returns-in-Ended-clause-ok g c =

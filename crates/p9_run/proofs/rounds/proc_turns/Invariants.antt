@@ -10,7 +10,7 @@ abbrev pub invariant-loop-i : goal.invariant-loop-i
 invariant-loop-i g l = record {
   valid : IsValid (g.E.Engine.setup l.engine);
   setup : g.E.Engine.setup l.engine ≡ g.E.Engine.setup l.initial.engine;
-  between : Between (g.P.Programs.asks l.programs) g.P.B.Body.plan g.P.B.Body.stands_for (g.E.Engine.entries l.engine) l.bodies.slots.items;
+  between : Between (g.P.Programs.asks l.programs) g.P.B.Body.plan g.P.B.Body.stands_for (g.E.Engine.entries l.engine) l.bodies.by_thread.items;
   all_over : l.all_over ≡ true → AllOver l.i (reply_at (g.E.Engine.setup l.engine) (g.E.Engine.entries l.engine));
   files : TouchesNoFile (g.E.Engine.entries l.initial.engine) (g.E.Engine.entries l.engine);
 }

@@ -10,6 +10,6 @@ invariant-loop g l = record {
   is_finite : (goal.iterator-loop g).is_finite l.iterator';
   valid : IsValid (g.E.Engine.setup l.engine);
   setup : g.E.Engine.setup l.engine ≡ g.E.Engine.setup l.initial.engine;
-  between : Between (g.P.Programs.asks l.programs) g.P.B.Body.plan g.P.B.Body.stands_for (g.E.Engine.entries l.engine) l.bodies.slots.items;
+  between : Between (g.P.Programs.asks l.programs) g.P.B.Body.plan g.P.B.Body.stands_for (g.E.Engine.entries l.engine) l.bodies.by_thread.items;
   devices : (firsts : List g.row.D.Denot) → AllServe g.D.Device.serves (g.E.Engine.entries l.initial.engine) 1 firsts l.initial.devices → AllServe g.D.Device.serves (g.E.Engine.entries l.engine) 1 firsts l.devices;
 }

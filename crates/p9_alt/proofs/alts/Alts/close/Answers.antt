@@ -1,7 +1,7 @@
 use Rattle.std.proofs.Common.{ap, arith, not, rules}
 use Rattle.std.proofs.lemmas.Fn.{filter_same}
 use Rattle.p9_manual.specs.declared.state.Party.{Party}
-use Rattle.p9_manual.specs.Entries.{waits_on}
+use Rattle.p9_manual.specs.AltEntries.{waits_on}
 use Rattle.p9_alt.specs.Exchange.{closed_on}
 use Rattle.p9_alt.proofs.Waits.{queue-filter}
 use Rattle.p9_alt.proofs.alts.Alts.close.Goals as goal

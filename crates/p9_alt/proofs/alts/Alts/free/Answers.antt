@@ -2,7 +2,7 @@ use Rattle.std.proofs.Common.{◌≡◌, ◌-◌, length, ap, sym, subst, ◌∙
 use Rattle.p9_manual.specs.Close.{freed_chan}
 use Rattle.p9_chan.specs.Channels.{Channels, IsMade}
 use Rattle.p9_alt.specs.Exchange.{Exchange}
-use Rattle.p9_alt.proofs.Places.{length-changed}
+use Rattle.p9_alt.proofs.Changes.{length-changed}
 use Rattle.p9_alt.proofs.alts.Alts.free.Goals as goal
 
 pub drop_freed-requires : goal.drop_freed-requires

@@ -3,8 +3,8 @@ use Rattle.p9_word.specs.declared.alt.AltEntry.{AltEntry}
 use Rattle.p9_manual.specs.declared.state.Channel.{Channel}
 use Rattle.p9_manual.specs.declared.state.Party.{Party}
 use Rattle.p9_manual.specs.Commit.{commit}
-use Rattle.p9_manual.specs.Entries.{sends_on}
-use Rattle.p9_manual.specs.Ready.{fits, is_ready, ready_entries}
+use Rattle.p9_manual.specs.AltEntries.{sends_on}
+use Rattle.p9_manual.specs.ReadyEntries.{fits, is_ready, ready_entries}
 use Rattle.p9_manual.specs.State.{by_id}
 use Rattle.p9_manual.specs.Standing.{times}
 use Rattle.p9_chan.specs.Channels.{is_closed_in}
@@ -15,7 +15,7 @@ use Rattle.p9_alt.proofs.Fitting.{all_usable, at_index, live_entry, made_from_li
 use Rattle.p9_alt.proofs.Sends.{find_by_times, times-without}
 use Rattle.p9_alt.proofs.alts.Alts.go_on.Goals as goal
 
--- the place of the entry, in the caller's own terms
+-- the number of the entry, in the caller's own terms
 number_is : (chans : List Channel) (waits read_waits : List Party) (es read : List AltEntry) (n i : ℕ) → read_waits ≡ waits → read ≡ es → i ≡ get_or (ready_entries chans read_waits read) n 0 → i ≡ get_or (ready_entries chans waits es) n 0
 number_is chans waits read_waits es read n i w e is = rw (← w, ← e) is
 

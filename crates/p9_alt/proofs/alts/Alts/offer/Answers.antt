@@ -2,8 +2,8 @@ use Rattle.std.proofs.Common.{sym, subst, ◌∙◌, ◌≡◌, true, length, Li
 use Rattle.p9_manual.specs.declared.state.Channel.{Channel}
 use Rattle.p9_manual.specs.declared.state.Party.{Party}
 use Rattle.p9_word.specs.declared.alt.AltEntry.{AltEntry}
-use Rattle.p9_manual.specs.Ready.{fits, ready_entries}
-use Rattle.p9_manual.specs.Entries.{sends_on}
+use Rattle.p9_manual.specs.ReadyEntries.{fits, ready_entries}
+use Rattle.p9_manual.specs.AltEntries.{sends_on}
 use Rattle.p9_manual.specs.Standing.{times}
 use Rattle.p9_manual.specs.State.{by_id}
 use Rattle.p9_chan.specs.Channels.{Channels, is_closed_in}

@@ -1,5 +1,5 @@
 use Rattle.std.proofs.Common.{sym, subst, ◌≡◌, true}
-use Rattle.p9_manual.specs.Ready.{fits}
+use Rattle.p9_manual.specs.ReadyEntries.{fits}
 use Rattle.p9_alt.specs.Exchange.{Exchange}
 use Rattle.p9_alt.proofs.Fitting.{all_usable}
 use Rattle.p9_alt.proofs.alts.Alts.ready_count.Goals as goal

@@ -1,5 +1,5 @@
 use Rattle.std.proofs.Common.{◌≡◌, ◌+◌, drop}
-use Rattle.p9_manual.specs.Entries.{first_number}
+use Rattle.p9_manual.specs.AltEntries.{first_number}
 use Rattle.p9_alt.specs.Sides.{entry_test}
 use Rattle.p9_alt.proofs.side.Side.first_number.Given as goal
 

@@ -32,7 +32,7 @@ left_before : (at : ℕ) (r : Option (ℕ × Answer)) (ws : List Party) → All 
 left_before at None ws h = later at ws h
 left_before at (Some w) ws h = All-filter (λ u. not (u.tid == w.0)) (λ (w : Party). w.at + 1 ≤ at + 1) ws (later at ws h)
 
--- those that wait after a call made it before the next place
+-- those that wait after a call made it before the next position
 before_after : (v : Verdict) (at : ℕ) (me : Party) (ws : List Party) → me.at ≡ at → All (λ w. w.at + 1 ≤ at) ws → All (λ w. w.at + 1 ≤ at + 1) (waits_after v me ws)
 before_after AllClosed at me ws e h = later at ws h
 before_after NoneReady at me ws e h = later at ws h

@@ -11,7 +11,7 @@ use Rattle.p9_sched.proofs.Keeping.{put_there, started_lane}
 use Rattle.p9_sched.proofs.Lists.{id_of, changed_none, length-changed}
 use Rattle.p9_sched.proofs.Nexts.{next_thread, idle_there}
 use Rattle.p9_sched.proofs.Sound.{moved, same_id}
-use Rattle.p9_sched.proofs.Views.{seen_line, empty_line, slot_is, place_was, old_turn, new_turn, turn_seen, moved_view, new_place}
+use Rattle.p9_sched.proofs.Views.{seen_line, empty_line, row_is, place_was, old_turn, new_turn, turn_seen, moved_view, new_place}
 use Rattle.p9_sched.proofs.Tracks.{tracks_turn}
 use Rattle.p9_sched.proofs.sched.Sched.next_of.Goals as goal
 use Rattle.p9_sched.proofs.sched.Sched.next_of.Goals.{in-Ready, in_default}
@@ -41,8 +41,8 @@ replace-requires c =
     let n = next_thread c.args.p c.self.inside.table.threads c.self.inside.lanes c.self.inside.table.rooms.thread c.in_ok-t.t (sym e.first) c.self.invariant in
     id_of c.self.inside.table.threads c.in_ok-t.t n.thread n.there
 
-pub slot-slot-requires : goal.slot-slot-requires
-slot-slot-requires c =
+pub row-row-requires : goal.row-row-requires
+row-row-requires c =
     let e = c.in_ok-t.ensures in
     let n = next_thread c.args.p c.self.inside.table.threads c.self.inside.lanes c.self.inside.table.rooms.thread c.in_ok-t.t (sym e.first) c.self.invariant in
     let id = id_of c.self.inside.table.threads c.in_ok-t.t n.thread n.there in
@@ -67,7 +67,7 @@ returns-clause-turn c =
     let x = n.thread in
     let was = place_was (by_id c.self.inside.table.threads t) x c.replace.result n.there c.replace.ensures.was in
     let there = ap (λ (s : Stored). by_id s.threads t) c.replace.ensures.table ∙ put_there c.self.inside.table.threads t x Running n.there in
-    let result : c.match-replace.result ≡ ready_at t x.program x.arg x.place = elim c.match-replace.branch [ in-Ready w ↦ old_turn t x w.in-Ready.answer c.match-replace.result (was ∙ w.in-Ready.is) w.result-is | in_default w ↦ new_turn t x w.slot-slot.result.now c.match-replace.result (new_place x.place n.on (λ a h. w.in_default.not-Ready a (sym was ∙ h))) (slot_is (by_id c.replace.new.self.threads t) (at_place Running x) w.slot-slot.result.now there w.slot-slot.ensures) w.result-is ] in
+    let result : c.match-replace.result ≡ ready_at t x.program x.arg x.place = elim c.match-replace.branch [ in-Ready w ↦ old_turn t x w.in-Ready.answer c.match-replace.result (was ∙ w.in-Ready.is) w.result-is | in_default w ↦ new_turn t x w.row-row.result.now c.match-replace.result (new_place x.place n.on (λ a h. w.in_default.not-Ready a (sym was ∙ h))) (row_is (by_id c.replace.new.self.threads t) (at_place Running x) w.row-row.result.now there w.row-row.ensures) w.result-is ] in
     rw (result, c.replace.ensures.table, e.lanes, turn_seen c.self.inside c.args.self.now c.args.p t x n.rest c.self.view_is n.line_is n.there) (ap (λ (v : Schedule). (ready_at t x.program x.arg x.place, v)) (moved_view c.self.inside c.args.self.now (placed t Running) (started (Some t)) (drop 1) c.args.p c.self.view_is (λ l. refl) (λ l. refl)))
 
 pub returns-clause-none : goal.returns-clause-none

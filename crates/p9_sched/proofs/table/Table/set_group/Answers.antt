@@ -13,7 +13,7 @@ invariant_of-self c =
     let on : c.self.inside.group_room ≡ true = ap (λ (w : Stored). w.rooms.group) c.self.view_is ∙ c.requires.room in
     let held = rw on at c.self.invariant.groups in
     record {
-      slots = c.self.invariant.slots;
+      rows = c.self.invariant.rows;
       groups = omega (arith, held, c.put_group.ensures.spare);
       names = c.self.invariant.names;
       no_groups = λ q lt. let ne : q ≢ c.args.t = omega (arith, c.requires.made.to) in c.put_group.ensures.others q ne ∙ c.self.invariant.no_groups q lt;
@@ -22,5 +22,5 @@ invariant_of-self c =
 
 pub returns : goal.returns
 returns c =
-    let e = threads_group (groups_in c.self.inside) (get nat_eq c.put_group.new.groups) (names_in c.self.inside) c.args.t c.args.group c.self.inside.slots.items c.requires.made.from c.put_group.ensures.group c.put_group.ensures.others in
+    let e = threads_group (groups_in c.self.inside) (get nat_eq c.put_group.new.groups) (names_in c.self.inside) c.args.t c.args.group c.self.inside.rows.items c.requires.made.from c.put_group.ensures.group c.put_group.ensures.others in
     rw e (ap (λ (w : Stored). record { threads = changed (in_group c.args.group) w.threads (c.args.t - 1); rooms = record w.rooms { group = false } }) c.self.view_is)

@@ -11,7 +11,7 @@ pub invariant_of-self : goal.invariant_of-self
 invariant_of-self c =
     let n = seen_length c.self.inside c.args.self.now c.self.view_is in
     record {
-      slots = c.self.invariant.slots;
+      rows = c.self.invariant.rows;
       groups = c.self.invariant.groups;
       names = omega arith;
       no_groups = c.self.invariant.no_groups;
@@ -20,5 +20,5 @@ invariant_of-self c =
 
 pub returns : goal.returns
 returns c =
-    let e = threads_name (groups_in c.self.inside) (names_in c.self.inside) (get nat_eq c.put_name.new.names) c.args.t c.args.name c.self.inside.slots.items c.requires.made.from c.put_name.ensures.name c.put_name.ensures.others in
+    let e = threads_name (groups_in c.self.inside) (names_in c.self.inside) (get nat_eq c.put_name.new.names) c.args.t c.args.name c.self.inside.rows.items c.requires.made.from c.put_name.ensures.name c.put_name.ensures.others in
     rw e (ap (λ (w : Stored). record { threads = changed (with_name c.args.name) w.threads (c.args.t - 1); rooms = record w.rooms { name = false } }) c.self.view_is)

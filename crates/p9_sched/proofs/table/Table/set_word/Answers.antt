@@ -5,13 +5,13 @@ use Rattle.p9_sched.specs.Stored.{Stored}
 use Rattle.p9_sched.proofs.Seen.{seen_length, seen_set}
 use Rattle.p9_sched.proofs.table.Table.set_word.Goals as goal
 
-pub index_mut-slot-requires : goal.index_mut-slot-requires
-index_mut-slot-requires c =
+pub index_mut-row-requires : goal.index_mut-row-requires
+index_mut-row-requires c =
     let n = seen_length c.self.inside c.args.self.now c.self.view_is in
-    omega (arith, c.self.inside.slots.ok.0)
+    omega (arith, c.self.inside.rows.ok.0)
 
 pub returns : goal.returns
 returns c =
-    let at = c.index_mut-slot.ensures.value in
-    let e = seen_set c.self.inside c.args.self.now (with_word c.args.word) c.args.t c.index_mut-slot.result.now (record c.index_mut-slot.result.now { word = c.args.word }) c.self.view_is c.requires (λ u. rw (← at) refl) in
+    let at = c.index_mut-row.ensures.value in
+    let e = seen_set c.self.inside c.args.self.now (with_word c.args.word) c.args.t c.index_mut-row.result.now (record c.index_mut-row.result.now { word = c.args.word }) c.self.view_is c.requires (λ u. rw (← at) refl) in
     rw e (ap (λ (w : Stored). record { threads = changed (with_word c.args.word) c.args.self.now.threads (c.args.t - 1); rooms = w.rooms }) c.self.view_is)
