@@ -1,6 +1,7 @@
 mod closings;
 mod file_sink;
 mod files;
+mod folder;
 mod location;
 mod opening;
 mod std_sink;

@@ -3,6 +3,7 @@ ghost use Rattle.p9_outside.specs.Adapters.{closed_count};
 ghost use Rattle.p9_outside.specs.Counts.{raised};
 
 use crate::real::closings::Closings;
+use crate::real::folder::Folder;
 use std::alloc::Global;
 use std::fs::{File, Metadata, OpenOptions, Permissions};
 use std::io::ErrorKind;
@@ -28,11 +29,12 @@ enum End {
 /// A file that has the contents that its target is to have, in the same folder.
 ///
 /// Its name is the target's between `.` and `.p9pipe-N.tmp`, so that it is hidden, and known for what it
-/// is where a run was killed.
+/// is where a run was killed. Where the folder is held, the paths of both begin with its descriptor.
 #[derive(Drop)]
 pub(crate) struct Temporary {
     name: String,
     target: String,
+    _folder: Option<Folder>,
     end: End,
 }
 
@@ -43,10 +45,12 @@ impl Temporary {
         alloc: Global,
         target: String,
     ) -> io::Result<(File, Temporary)> {
+        let (folder, target) = held(rt, alloc, target)?;
         let (file, name) = made(rt, alloc, target.as_str(), 0o666)?;
         let temporary = Temporary {
             name,
             target,
+            _folder: folder,
             end: End::New,
         };
         Ok((file, temporary))
@@ -60,11 +64,13 @@ impl Temporary {
         target: String,
         old: &Metadata,
     ) -> io::Result<(File, Temporary)> {
+        let (folder, target) = held(rt, alloc, target)?;
         let (file, name) = made(rt, alloc, target.as_str(), 0o600)?;
         let replaces = old.nlink() <= 1 && copy_attributes(&file, old).is_ok();
         let temporary = Temporary {
             name,
             target,
+            _folder: folder,
             end: if replaces { End::Replaces } else { End::Copied },
         };
         Ok((file, temporary))
@@ -153,6 +159,23 @@ fn copy_attributes(file: &File, old: &Metadata) -> io::Result<()> {
     file.set_permissions(Permissions::from_mode(mode))
 }
 
+/// The folder of a target, and the target's path by way of its descriptor. Where the folder can't be held
+/// the path stays as it is.
+fn held<R: Files<File = File>>(
+    rt: &R,
+    alloc: Global,
+    target: String,
+) -> io::Result<(Option<Folder>, String)> {
+    let (folder, name) = parts(target.as_str())?;
+    match Folder::of(rt, alloc, folder)? {
+        Some(folder) => {
+            let target = folder.path_of(alloc, name)?;
+            Ok((Some(folder), target))
+        }
+        None => Ok((None, target)),
+    }
+}
+
 /// Makes a file under the first name that isn't used yet. There is no last one.
 fn made<R: Files<File = File>>(
     rt: &R,
@@ -161,6 +184,7 @@ fn made<R: Files<File = File>>(
     mode: u32,
 ) -> io::Result<(File, String)> {
     let (folder, name) = parts(target)?;
+    let name = if name.len() > LONGEST { "" } else { name };
     for n in 0..u64::MAX {
         let name = format!(in alloc; ".{name}.p9pipe-{n}.tmp")?;
         let path = folder.join(alloc, name.as_str())?.into_string();
@@ -180,8 +204,8 @@ fn create<R: Files<File = File>>(rt: &R, path: &str, mode: u32) -> io::Result<Fi
     how.open(rt, path)
 }
 
-/// The folder and the name of a target, whose name is left out where it is too long. A path that ends in
-/// no name, as one that ends in a slash, is refused.
+/// The folder and the name of a target. A path that ends in no name, as one that ends in a slash, is
+/// refused.
 fn parts(target: &str) -> io::Result<(Path<'_>, &str)> {
     let path = Path::new(target);
     let Some(name) = path.file_name() else {
@@ -190,7 +214,5 @@ fn parts(target: &str) -> io::Result<(Path<'_>, &str)> {
     if !target.ends_with(name) {
         return Err(io::Error::from(ErrorKind::InvalidInput));
     }
-    let folder = path.parent().unwrap_or(Path::new(""));
-    let name = if name.len() > LONGEST { "" } else { name };
-    Ok((folder, name))
+    Ok((path.parent().unwrap_or(Path::new("")), name))
 }
