@@ -57,6 +57,7 @@ fn run_threads(alloc: Global, machine: &mut Machine) -> Result<(), NoMemory> {
         let Some((thread, request)) = request_after(alloc, &turn)? else {
             break;
         };
+        // What these threads ask is answered at their next turn, or ends them.
         happens(machine, Event::Call(thread, request))?;
     }
     Ok(())
