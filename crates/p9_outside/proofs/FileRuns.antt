@@ -1,5 +1,5 @@
 -- What a list of services of a file shows.
-use Rattle.std.proofs.Common.{◌∙◌, ap, inr, ◌≡◌, ℕ, ◌≤◌, Bool, true, false, List, [], ◌∷◌, ◌++◌, refl, sym, subst, arith}
+use Rattle.std.proofs.Common.{◌∙◌, ap, inr, ◌≡◌, ℕ, Bool, true, false, List, [], ◌∷◌, ◌++◌, refl, sym, subst, arith}
 use Rattle.std.proofs.Math.Seq.{drop-append_seam}
 use Rattle.std.specs.Prelude.{Option, Some, None, ◌||◌, ◌+◌, if◌then◌else◌}
 use Rattle.p9_outside.specs.declared.file_device.FileDevice.{FileDevice}
@@ -11,7 +11,8 @@ use Rattle.p9_word.specs.declared.io_call.Effect.{Effect}
 use Rattle.p9_word.specs.declared.io_call.Effect.TheVariants.{Opened, Shut, Got, Wrote, Refused}
 use Rattle.p9_outside.specs.declared.reading.ReadDevice.{ReadDevice}
 use Rattle.p9_outside.specs.declared.writing.WriteDevice.{WriteDevice}
-use Rattle.p9_outside.specs.Causes.{Rose, RoseBy}
+use Rattle.p9_outside.specs.Causes.{CountsFault}
+use Rattle.p9_outside.specs.Counts.{raised}
 use Rattle.p9_manual.specs.Effects.{got, has_failed}
 use Rattle.p9_manual.specs.Files.{At, TreatsAsFile, after, given, joined, with_piece, written}
 use Rattle.p9_outside.specs.Reading.{ReadServes, reader_at, IsFull, FullReads, rest_after, has_got_failed}
@@ -26,9 +27,13 @@ joined_piece : (bs : List ℕ) (pieces : List (List ℕ)) → joined (with_piece
 joined_piece [] pieces = refl
 joined_piece (b ∷ bs) pieces = refl
 
-rises_on : (a b c : ℕ) (failed : Bool) (n : ℕ) → a ≤ b → (failed ≡ true → Rose a b) → RoseBy n b c → RoseBy ((if failed then 1 else 0) + n) a c
-rises_on a b c true n later cause on = let rose : Rose a b = cause refl in (omega (arith, on.0), omega (arith, on.0, on.1, rose))
-rises_on a b c false n later cause on = (omega (arith, on.0), omega (arith, on.0, on.1))
+-- a count after the first service, and after the others
+rises_on : (a b c : ℕ) (failed : Bool) (n : ℕ) → CountsFault failed a b → c ≡ raised b n → c ≡ raised a ((if failed then 1 else 0) + n)
+rises_on a b c true n once on = rw (on, once) (omega arith)
+rises_on a b c false n once on = rw (on, once) (omega arith)
+
+rises_none : (a : ℕ) → a ≡ raised a 0
+rises_none a = omega arith
 
 or_false : (b : Bool) → (b || false) ≡ b
 or_false true = refl
@@ -86,11 +91,11 @@ module _ {S : Type 0} (left : S → Option (List ℕ)) (faults : S → ℕ) wher
       let failed : reached.0.has_failed ≡ (first.has_failed || has_got_failed s.1) = ap (λ (at : At). at.failed) reached.1.state ∙ fails_on (reader_at first) s.1 in
       (full_told first.has_failed s.0 s.1 _ _ is' reached.1.full, subst (λ (b : Bool). FullReads b (rest_after (got s.1) told) services) failed (reader_full reached.0 last services _ is' reached.2))
 
-  -- no more effects failed than the count rose by
-  reader_tells : (first last : ReadDevice S) (services : List (IoCall × Effect)) → Reached (ReadServes left faults) first services last → RoseBy (failures services) (faults first.source) (faults last.source)
-  reader_tells first last [] reached = subst (λ (d : ReadDevice S). RoseBy 0 (faults first.source) (faults d.source)) (sym reached) (omega arith, omega arith)
+  -- the count rose by just as much as effects failed
+  reader_tells : (first last : ReadDevice S) (services : List (IoCall × Effect)) → Reached (ReadServes left faults) first services last → faults last.source ≡ raised (faults first.source) (failures services)
+  reader_tells first last [] reached = ap (λ (d : ReadDevice S). faults d.source) reached ∙ rises_none (faults first.source)
   reader_tells first last (s ∷ services) reached =
-      rises_on _ _ _ (has_failed s.1) (failures services) reached.1.tells.later reached.1.tells.cause (reader_tells reached.0 last services reached.2)
+      rises_on _ _ _ (has_failed s.1) (failures services) reached.1.tells (reader_tells reached.0 last services reached.2)
 
 module _ {K : Type 0} (held : K → Option (List ℕ)) (faults : K → ℕ) where
   writer_is_file : (first last : WriteDevice K) (services : List (IoCall × Effect)) → Reached (WriteServes held faults) first services last → TreatsAsFile true (writer_at first) services
@@ -103,10 +108,10 @@ module _ {K : Type 0} (held : K → Option (List ℕ)) (faults : K → ℕ) wher
   writer_takes first last (s ∷ services) reached =
       appends_more _ _ _ _ _ reached.1.bytes (writer_takes reached.0 last services reached.2)
 
-  writer_tells : (first last : WriteDevice K) (services : List (IoCall × Effect)) → Reached (WriteServes held faults) first services last → RoseBy (failures services) (faults first.sink) (faults last.sink)
-  writer_tells first last [] reached = subst (λ (d : WriteDevice K). RoseBy 0 (faults first.sink) (faults d.sink)) (sym reached) (omega arith, omega arith)
+  writer_tells : (first last : WriteDevice K) (services : List (IoCall × Effect)) → Reached (WriteServes held faults) first services last → faults last.sink ≡ raised (faults first.sink) (failures services)
+  writer_tells first last [] reached = ap (λ (d : WriteDevice K). faults d.sink) reached ∙ rises_none (faults first.sink)
   writer_tells first last (s ∷ services) reached =
-      rises_on _ _ _ (has_failed s.1) (failures services) reached.1.tells.later reached.1.tells.cause (writer_tells reached.0 last services reached.2)
+      rises_on _ _ _ (has_failed s.1) (failures services) reached.1.tells (writer_tells reached.0 last services reached.2)
 
 module _ {S K : Type 0} (left : S → Option (List ℕ)) (faults : S → ℕ) (held : K → Option (List ℕ)) (counts : K → ℕ) where
   -- a device keeps its direction

@@ -13,6 +13,10 @@ reader_of s = s.inner
 abbrev pub reader_faults : {R : Type 0} → StdSource R → ℕ
 reader_faults s = s.faults
 
+-- how many bytes the reader has given, by what its reads answered
+abbrev pub reader_given : {R : Type 0} → StdSource R → ℕ
+reader_given s = s.given
+
 abbrev pub writer_of : {W : Type 0} → StdSink W → W
 writer_of s = s.inner
 

@@ -1,6 +1,6 @@
 -- Counts that are kept in a u64.
-use Rattle.std.specs.Prelude.{ℕ, ◌+◌, ◌-◌, ◌^◌, min}
+use Rattle.std.specs.Prelude.{ℕ, ◌+◌, ◌-◌, ◌^◌, max, min}
 
--- a count after n more, which stands at the greatest u64
+-- a count after n more: it never falls, and stands at the greatest u64
 abbrev pub raised : ℕ → ℕ → ℕ
-raised count n = min (count + n) (2 ^ 64 - 1)
+raised count n = max count (min (count + n) (2 ^ 64 - 1))

@@ -1,5 +1,5 @@
 -- What the services of a file come to, one after the other.
-use Rattle.std.specs.Prelude.{ℕ, Bool, true, false, List, Option, None}
+use Rattle.std.specs.Prelude.{ℕ, ◌≡◌, Bool, true, false, List, Option, None}
 use Rattle.std.specs.Io.KnownBytes.{Consumes, Appends}
 use Rattle.p9_word.specs.declared.io_call.IoCall.{IoCall}
 use Rattle.p9_word.specs.declared.io_call.Effect.{Effect}
@@ -8,26 +8,26 @@ use Rattle.p9_outside.specs.declared.file_device.FileDevice.{FileDevice}
 use Rattle.p9_outside.specs.declared.file_device.FileDevice.TheVariants.{In, Out}
 use Rattle.p9_outside.specs.declared.reading.ReadDevice.{ReadDevice}
 use Rattle.p9_outside.specs.declared.writing.WriteDevice.{WriteDevice}
-use Rattle.p9_outside.specs.Causes.{RoseBy}
+use Rattle.p9_outside.specs.Counts.{raised}
 use Rattle.p9_outside.specs.FileServices.{FileServes, failures}
 use Rattle.p9_outside.specs.Reached.{Reached}
 use Rattle.p9_outside.specs.Reading.{reader_at, FullReads}
 use Rattle.p9_outside.specs.Writing.{writer_at}
 
 -- a file that is read: it was treated as one; the bytes that it gave are those that its source has less; each read is full
--- until one fails; and the count of faults rose by as much as effects failed
+-- until one fails; and the count of faults rose by just as much as effects failed
 pub record ReaderRuns {S : Type 0} (left : S → Option (List ℕ)) (faults : S → ℕ) (first : ReadDevice S) (services : List (IoCall × Effect)) (last : ReadDevice S) : Type 0 where
   pub file : TreatsAsFile false (reader_at first) services
   pub given : Consumes (left first.source) (left last.source) (joined (given services))
   pub full : FullReads first.has_failed (left first.source) services
-  pub tells : RoseBy (failures services) (faults first.source) (faults last.source)
+  pub tells : faults last.source ≡ raised (faults first.source) (failures services)
 
 -- a file that is written: it was treated as one; the bytes that it took are those that its sink has more; and the count of
--- faults rose by as much as effects failed
+-- faults rose by just as much as effects failed
 pub record WriterRuns {K : Type 0} (held : K → Option (List ℕ)) (counts : K → ℕ) (first : WriteDevice K) (services : List (IoCall × Effect)) (last : WriteDevice K) : Type 0 where
   pub file : TreatsAsFile true (writer_at first) services
   pub written : Appends (held first.sink) (held last.sink) (written services)
-  pub tells : RoseBy (failures services) (counts first.sink) (counts last.sink)
+  pub tells : counts last.sink ≡ raised (counts first.sink) (failures services)
 
 -- a file keeps its direction, and does what a file of that direction does
 abbrev pub FileRuns : {S K : Type 0} → (S → Option (List ℕ)) → (S → ℕ) → (K → Option (List ℕ)) → (K → ℕ) → FileDevice S K → List (IoCall × Effect) → FileDevice S K → Type 0

@@ -1,7 +1,8 @@
 -- The source and the sink in memory: what each has left or holds, and which of its calls fail.
-use Rattle.std.specs.Prelude.{ℕ, ◌≡◌, ◌+◌, ◌-◌, ◌^◌, ◌⊎◌, min, List, length, drop, Contains}
+use Rattle.std.specs.Prelude.{ℕ, ◌≡◌, ◌-◌, ◌⊎◌, min, List, length, drop, Contains}
 use Rattle.p9_outside.specs.declared.memory.source.MemSource.{MemSource}
 use Rattle.p9_outside.specs.declared.memory.sink.MemSink.{MemSink}
+use Rattle.p9_outside.specs.Counts.{raised}
 
 -- the bytes that are not read yet
 abbrev pub source_left : MemSource → List ℕ
@@ -45,9 +46,9 @@ sink_calls s = s.calls
 abbrev pub sink_faults : MemSink → ℕ
 sink_faults s = s.faults
 
--- a count after one more, which stands at the greatest u64
+-- a count after one more
 abbrev pub counted : ℕ → ℕ
-counted n = min (n + 1) (2 ^ 64 - 1)
+counted n = raised n 1
 
 -- what no read changes, and one more read
 pub record ReadsOn (old new : MemSource) : Type 0 where

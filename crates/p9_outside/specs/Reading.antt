@@ -5,10 +5,10 @@ use Rattle.p9_word.specs.declared.io_call.IoCall.{IoCall}
 use Rattle.p9_word.specs.declared.io_call.IoCall.TheVariants.{IoReadN}
 use Rattle.p9_word.specs.declared.io_call.Effect.{Effect}
 use Rattle.p9_word.specs.declared.io_call.Effect.TheVariants.{Opened, Shut, Got, Wrote, Refused}
-use Rattle.p9_manual.specs.Effects.{got}
+use Rattle.p9_manual.specs.Effects.{got, has_failed}
 use Rattle.p9_manual.specs.Files.{At, IsFileStep, after}
 use Rattle.p9_outside.specs.declared.reading.ReadDevice.{ReadDevice}
-use Rattle.p9_outside.specs.Causes.{Tells}
+use Rattle.p9_outside.specs.Causes.{CountsFault}
 
 -- whether the file is open, and whether a read of it has failed
 abbrev pub reader_at : {S : Type 0} → ReadDevice S → At
@@ -26,13 +26,13 @@ IsFull false (IoReadN n) (Got false bytes) left = (length bytes ≡ n) ⊎ IsAtE
 IsFull false call effect left = Unit {0}
 
 -- one service: a step of a file, with the state after it; the bytes that it gave are the first of those left;
--- reads are full; and it failed only where the source's count of faults rose
+-- reads are full; and the source's count of faults rises by just one where it failed, and else stays
 pub record ReadServes {S : Type 0} (left : S → Option (List ℕ)) (faults : S → ℕ) (old : ReadDevice S) (call : IoCall) (effect : Effect) (new : ReadDevice S) : Type 0 where
   pub file : IsFileStep false (reader_at old) call effect
   pub state : reader_at new ≡ after (reader_at old) effect
   pub bytes : Consumes (left old.source) (left new.source) (got effect)
   pub full : IsFull old.has_failed call effect (left new.source)
-  pub tells : Tells (faults old.source) (faults new.source) effect
+  pub tells : CountsFault (has_failed effect) (faults old.source) (faults new.source)
 
 -- the same of one read, on an open file, of 1 to 65536 bytes
 abbrev pub ReadsN : {S : Type 0} → (S → Option (List ℕ)) → (S → ℕ) → ReadDevice S → ℕ → Effect → ReadDevice S → Type 0

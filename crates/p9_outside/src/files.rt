@@ -1,5 +1,5 @@
-ghost use Rattle.std.specs.Prelude.{◌≡◌, ◌≤◌, ℕ, IfOk, OnOk, OnErr};
-ghost use Rattle.p9_outside.specs.Causes.{Rose};
+ghost use Rattle.std.specs.Prelude.{ℕ, IfOk, OnOk, OnErr};
+ghost use Rattle.p9_outside.specs.Causes.{CountsFault, is_failed};
 ghost use Rattle.p9_outside.specs.Contents.{Told, Stay, Opens, IsFresh, Puts};
 
 use crate::{Sink, Source};
@@ -17,8 +17,8 @@ pub enum FilesFault {
 /// Files by their paths. A path is any bytes.
 ///
 /// A path gets new contents when a sink for it is closed, and not before. Files may tell the contents of
-/// each path, as those in memory do, or tell nothing, as the system's. They count the calls that failed,
-/// and the count never falls.
+/// each path, as those in memory do, or tell nothing, as the system's. They count the calls that failed:
+/// the count rises by one with each, and at nothing else, want of memory neither.
 pub trait Files {
     /// What a path is read by.
     type Src: Source + Send + Drop;
@@ -36,16 +36,14 @@ pub trait Files {
     fn source(&mut self, alloc: Global, path: &[u8]) -> Result<Self::Src, FilesFault>
         ensures contents { Stay (contents self.old) (contents self.new) }
         ensures opens { IfOk result (λ s. Opens (contents self.old) path.now (Self.Src.left s)) }
-        ensures later { faults self.old ≤ faults self.new }
-        ensures failed { result ≡ Err FilesFault.Failed → Rose (faults self.old) (faults self.new) };
+        ensures faults { CountsFault (is_failed result) (faults self.old) (faults self.new) };
 
     /// A sink for the path that has taken nothing yet. No contents change. A sink that is let go without
     /// [`Files::close`] leaves nothing behind.
     fn sink(&mut self, alloc: Global, path: &[u8]) -> Result<Self::Dst, FilesFault>
         ensures contents { Stay (contents self.old) (contents self.new) }
         ensures fresh { IfOk result (λ s. IsFresh (contents self.old) (Self.Dst.held s)) }
-        ensures later { faults self.old ≤ faults self.new }
-        ensures failed { result ≡ Err FilesFault.Failed → Rose (faults self.old) (faults self.new) };
+        ensures faults { CountsFault (is_failed result) (faults self.old) (faults self.new) };
 
     /// Makes what the sink has taken the contents of the path. Those of every other path stay, and after
     /// an error all contents stay.
@@ -54,6 +52,5 @@ pub trait Files {
     fn close(&mut self, path: &[u8], dst: Self::Dst) -> Result<(), FilesFault>
         ensures ok { OnOk result (Puts (contents self.old) (contents self.new) path.now (Self.Dst.held dst)) }
         ensures err { OnErr result (Stay (contents self.old) (contents self.new)) }
-        ensures later { faults self.old ≤ faults self.new }
-        ensures failed { result ≡ Err FilesFault.Failed → Rose (faults self.old) (faults self.new) };
+        ensures faults { CountsFault (is_failed result) (faults self.old) (faults self.new) };
 }

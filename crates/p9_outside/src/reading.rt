@@ -1,6 +1,6 @@
-ghost use Rattle.std.specs.Prelude.{◌≡◌, ◌⊎◌, ◌≤◌, [], length, true, false};
+ghost use Rattle.std.specs.Prelude.{◌≡◌, ◌⊎◌, ◌≤◌, [], length, false};
 ghost use Rattle.std.specs.Io.KnownBytes.{Consumes, IsAtEnd};
-ghost use Rattle.p9_outside.specs.Causes.{Rose};
+ghost use Rattle.p9_outside.specs.Causes.{CountsFault};
 ghost use Rattle.p9_outside.specs.Reading.{ReadsN};
 
 use crate::{Device, Failed, Source};
@@ -27,8 +27,7 @@ fn fill<S: Source>(source: &mut S, n: usize, room: &mut Room<u8>) -> bool
     ensures most { length room.new.items ≤ n }
     ensures bytes { Consumes (S.left source.old) (S.left source.new) room.new.items }
     ensures full { result ≡ false → (length room.new.items ≡ n) ⊎ IsAtEnd (S.left source.new) }
-    ensures later { S.faults source.old ≤ S.faults source.new }
-    ensures failed { result ≡ true → Rose (S.faults source.old) (S.faults source.new) }
+    ensures faults { CountsFault result (S.faults source.old) (S.faults source.new) }
 {
     let mut buf = [0; PIECE];
     let mut len = 0;

@@ -1,14 +1,14 @@
-ghost use Rattle.std.specs.Prelude.{◌<◌, List, ℕ, length, IfOk, Option};
+ghost use Rattle.std.specs.Prelude.{◌<◌, List, ℕ, length, IfOk, Option, is_err};
 ghost use Rattle.std.specs.Io.{WritesAtMost};
 ghost use Rattle.std.specs.Io.KnownBytes.{WriteAppends};
-ghost use Rattle.p9_outside.specs.Causes.{HasCause};
+ghost use Rattle.p9_outside.specs.Causes.{CountsFault};
 
 use crate::Failed;
 
 /// What takes bytes, one after the other.
 ///
 /// A sink may tell which bytes it has taken, as those in memory do, or tell nothing, as a file of the
-/// system. It counts its faults, and the count never falls.
+/// system. It counts its faults: the count rises by one with each failed write, and at nothing else.
 pub trait Sink {
     /// The bytes that it has taken, where they are told.
     ghost held: { Self → Option (List ℕ) };
@@ -18,11 +18,11 @@ pub trait Sink {
 
     /// Takes some of the first bytes, at least one, and answers how many.
     ///
-    /// `Failed` comes only where the count of faults rose. No byte was taken then.
+    /// `Failed` raises the count of faults by just one, and no byte was taken then. Else the count stays.
     fn write(&mut self, bytes: &[u8]) -> Result<usize, Failed>
         requires { 0 < length bytes.now }
         ensures bound { WritesAtMost result bytes.now }
         ensures some { IfOk result (λ n. 0 < n) }
         ensures bytes { WriteAppends (held self.old) (held self.new) result bytes.now }
-        ensures cause { HasCause (faults self.old) (faults self.new) result };
+        ensures faults { CountsFault (is_err result) (faults self.old) (faults self.new) };
 }

@@ -1,7 +1,7 @@
-ghost use Rattle.std.specs.Prelude.{◌<◌, List, ℕ, length, Option};
+ghost use Rattle.std.specs.Prelude.{◌<◌, List, ℕ, length, Option, is_err};
 ghost use Rattle.std.specs.Io.{ReadsAtMost};
 ghost use Rattle.std.specs.Io.KnownBytes.{ReadConsumes};
-ghost use Rattle.p9_outside.specs.Causes.{HasCause};
+ghost use Rattle.p9_outside.specs.Causes.{CountsFault};
 
 /// A read or a write has failed.
 #[derive(Clone, Copy, Debug, PartialEq, Eq)]
@@ -10,7 +10,7 @@ pub struct Failed;
 /// Bytes to read, from the first to the last.
 ///
 /// A source may tell which bytes it has left, as those in memory do, or tell nothing, as a file of the
-/// system. It counts its faults, and the count never falls.
+/// system. It counts its faults: the count rises by one with each failed read, and at nothing else.
 pub trait Source {
     /// The bytes that are not read yet, where they are told.
     ghost left: { Self → Option (List ℕ) };
@@ -21,10 +21,10 @@ pub trait Source {
     /// Moves the next bytes to the front of `buf`, and answers how many: at most its length. 0 is the end,
     /// and where the bytes are told it comes exactly at the end.
     ///
-    /// `Failed` comes only where the count of faults rose. No byte is lost then.
+    /// `Failed` raises the count of faults by just one, and no byte is lost then. Else the count stays.
     fn read(&mut self, buf: &mut [u8]) -> Result<usize, Failed>
         requires { 0 < length buf.old }
         ensures bound { ReadsAtMost result buf.new }
         ensures bytes { ReadConsumes (left self.old) (left self.new) result buf.new }
-        ensures cause { HasCause (faults self.old) (faults self.new) result };
+        ensures faults { CountsFault (is_err result) (faults self.old) (faults self.new) };
 }

@@ -1,6 +1,6 @@
-ghost use Rattle.std.specs.Prelude.{◌≡◌, ◌<◌, ◌≤◌, length, take};
+ghost use Rattle.std.specs.Prelude.{◌≡◌, ◌≤◌, length, take, nat_lt};
 ghost use Rattle.std.specs.Io.KnownBytes.{Appends};
-ghost use Rattle.p9_outside.specs.Causes.{Rose};
+ghost use Rattle.p9_outside.specs.Causes.{CountsFault};
 
 use crate::{Device, Failed, Sink};
 use p9_word::{Effect, IoCall, Room};
@@ -15,12 +15,11 @@ pub struct WriteDevice<K> {
 }
 
 /// Writes until all is taken or a write failed, and answers how many of the first bytes were taken. Where
-/// that isn't all of them, a write failed and the count of faults rose.
+/// that isn't all of them, one write failed, and else none.
 pub fn drain<K: Sink>(sink: &mut K, bytes: &[u8]) -> usize
     ensures most { result ≤ length bytes.now }
     ensures bytes { Appends (K.held sink.old) (K.held sink.new) (take result bytes.now) }
-    ensures later { K.faults sink.old ≤ K.faults sink.new }
-    ensures failed { result < length bytes.now → Rose (K.faults sink.old) (K.faults sink.new) }
+    ensures faults { CountsFault (nat_lt result (length bytes.now)) (K.faults sink.old) (K.faults sink.new) }
 {
     let mut done = 0;
     while done < bytes.len() {

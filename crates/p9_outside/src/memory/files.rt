@@ -1,5 +1,5 @@
 ghost use Rattle.std.specs.Prelude.{◌≡◌, ◌<◌, ◌≤◌, ◌∷◌, length, remove, true, false, Some, None, IfOk, OnOk, OnErr, MatchOption};
-ghost use Rattle.p9_outside.specs.Causes.{Rose};
+ghost use Rattle.p9_outside.specs.Causes.{CountsFault, is_failed};
 ghost use Rattle.p9_outside.specs.Contents.{Stay, Opens, IsFresh, Puts};
 ghost use Rattle.p9_outside.specs.Memory.{source_left, sink_held};
 ghost use Rattle.p9_outside.specs.MemoryFiles.{found, without, entry, no_files, parts_of, contents_of, bytes_at, with_plan, CannotOpen, after_failure, KeepsPlans, IsSourceOf, IsSinkOf, OpensIn};
@@ -160,8 +160,7 @@ impl Files for MemFiles {
     fn source(&mut self, _alloc: Global, path: &[u8]) -> Result<MemSource, FilesFault>
         ensures contents { Stay (contents_of self.old) (contents_of self.new) }
         ensures opens { IfOk result (λ s. Opens (contents_of self.old) path.now (Some (source_left s))) }
-        ensures later { (parts_of self.old).faults ≤ (parts_of self.new).faults }
-        ensures failed { result ≡ Err FilesFault.Failed → Rose (parts_of self.old).faults (parts_of self.new).faults }
+        ensures faults { CountsFault (is_failed result) (parts_of self.old).faults (parts_of self.new).faults }
 
         ensures unplanned { OnOk result (is_planned (parts_of self.old).plans path.now PathFail.Source ≡ false) }
         ensures made { IfOk result (λ s. IsSourceOf (parts_of self.old) path.now s) }
@@ -185,8 +184,7 @@ impl Files for MemFiles {
     fn sink(&mut self, _alloc: Global, path: &[u8]) -> Result<MemSink, FilesFault>
         ensures contents { Stay (contents_of self.old) (contents_of self.new) }
         ensures fresh { IfOk result (λ s. IsFresh (contents_of self.old) (Some (sink_held s))) }
-        ensures later { (parts_of self.old).faults ≤ (parts_of self.new).faults }
-        ensures failed { result ≡ Err FilesFault.Failed → Rose (parts_of self.old).faults (parts_of self.new).faults }
+        ensures faults { CountsFault (is_failed result) (parts_of self.old).faults (parts_of self.new).faults }
 
         ensures unplanned { OnOk result (is_planned (parts_of self.old).plans path.now PathFail.Sink ≡ false) }
         ensures made { IfOk result (λ s. IsSinkOf (parts_of self.old) path.now s) }
@@ -209,8 +207,7 @@ impl Files for MemFiles {
     fn close(&mut self, path: &[u8], dst: MemSink) -> Result<(), FilesFault>
         ensures ok { OnOk result (Puts (contents_of self.old) (contents_of self.new) path.now (Some (sink_held dst))) }
         ensures err { OnErr result (Stay (contents_of self.old) (contents_of self.new)) }
-        ensures later { (parts_of self.old).faults ≤ (parts_of self.new).faults }
-        ensures failed { result ≡ Err FilesFault.Failed → Rose (parts_of self.old).faults (parts_of self.new).faults }
+        ensures faults { CountsFault (is_failed result) (parts_of self.old).faults (parts_of self.new).faults }
 
         ensures unplanned { OnOk result (is_planned (parts_of self.old).plans path.now PathFail.Close ≡ false) }
         ensures kept { OnOk result (KeepsPlans self.old self.new) }

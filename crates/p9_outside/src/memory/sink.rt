@@ -19,8 +19,8 @@ pub struct MemSink {
 }
 
 impl MemSink {
-    ghost use Rattle.p9_outside.specs.Memory.{sink_held, sink_room, sink_most, sink_fails, sink_calls, sink_faults, counted};
-    ghost use Rattle.p9_outside.specs.Causes.{Rose};
+    ghost use Rattle.p9_outside.specs.Memory.{sink_held, sink_room, sink_most, sink_fails, sink_calls, sink_faults};
+    ghost use Rattle.p9_outside.specs.Counts.{raised};
 
     /// A sink that takes at most `room` bytes in all, and at most `most` of them in one write. The writes
     /// whose numbers, from 1, are in `fails` fail, and so does each write when the room is full. All memory
@@ -60,9 +60,7 @@ impl MemSink {
 
     /// Counts a write that failed.
     fn count_fault(&mut self)
-        ensures counted { self.new ≡ record self.old { faults = counted self.old.faults } }
-        ensures later { self.old.faults ≤ self.new.faults }
-        ensures rose { Rose self.old.faults self.new.faults }
+        ensures { self.new ≡ record self.old { faults = raised self.old.faults 1 } }
     {
         self.faults = self.faults.saturating_add(1);
     }
@@ -85,10 +83,10 @@ impl MemSink {
 }
 
 impl Sink for MemSink {
-    ghost use Rattle.std.specs.Prelude.{◌<◌, ◌↔◌, Some, IsErr};
+    ghost use Rattle.std.specs.Prelude.{◌<◌, ◌↔◌, Some, IsErr, is_err};
     ghost use Rattle.std.specs.Io.{WritesAtMost};
     ghost use Rattle.std.specs.Io.KnownBytes.{WriteAppends};
-    ghost use Rattle.p9_outside.specs.Causes.{HasCause};
+    ghost use Rattle.p9_outside.specs.Causes.{CountsFault};
     ghost use Rattle.p9_outside.specs.Memory.{sink_held, sink_faults, WriteFails, WritesOn, write_count};
 
     ghost held = { λ s. Some (sink_held s) };
@@ -101,7 +99,7 @@ impl Sink for MemSink {
         ensures bound { WritesAtMost result bytes.now }
         ensures some { IfOk result (λ n. 0 < n) }
         ensures bytes { WriteAppends (Some (sink_held self.old)) (Some (sink_held self.new)) result bytes.now }
-        ensures cause { HasCause (sink_faults self.old) (sink_faults self.new) result }
+        ensures faults { CountsFault (is_err result) (sink_faults self.old) (sink_faults self.new) }
         ensures count { IfOk result (λ n. n ≡ write_count self.old (length bytes.now)) }
         ensures planned { IsErr result ↔ WriteFails self.old }
         ensures on { WritesOn self.old self.new }

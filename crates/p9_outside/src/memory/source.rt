@@ -42,10 +42,10 @@ impl MemSource {
 }
 
 impl Source for MemSource {
-    ghost use Rattle.std.specs.Prelude.{◌<◌, ◌↔◌, Some, IfOk, IsErr, Contains};
+    ghost use Rattle.std.specs.Prelude.{◌<◌, ◌↔◌, Some, IfOk, IsErr, Contains, is_err};
     ghost use Rattle.std.specs.Io.{ReadsAtMost};
     ghost use Rattle.std.specs.Io.KnownBytes.{ReadConsumes};
-    ghost use Rattle.p9_outside.specs.Causes.{HasCause};
+    ghost use Rattle.p9_outside.specs.Causes.{CountsFault};
     ghost use Rattle.p9_outside.specs.Memory.{source_left, source_fails, source_calls, source_faults, counted, ReadsOn, read_count};
 
     ghost left = { λ s. Some (source_left s) };
@@ -58,7 +58,7 @@ impl Source for MemSource {
         requires { 0 < length buf.old }
         ensures bound { ReadsAtMost result buf.new }
         ensures bytes { ReadConsumes (Some (source_left self.old)) (Some (source_left self.new)) result buf.new }
-        ensures cause { HasCause (source_faults self.old) (source_faults self.new) result }
+        ensures faults { CountsFault (is_err result) (source_faults self.old) (source_faults self.new) }
         ensures count { IfOk result (λ n. n ≡ read_count self.old (length buf.old)) }
         ensures planned { IsErr result ↔ Contains (source_fails self.old) (counted (source_calls self.old)) }
         ensures on { ReadsOn self.old self.new }

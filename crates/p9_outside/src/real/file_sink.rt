@@ -92,9 +92,9 @@ fn let_go_cut(file: File, length: u64, closings: &mut Closings) -> io::Result<()
 }
 
 impl<'a, R: Files<File = File>> Sink for FileSink<'a, R> {
-    ghost use Rattle.std.specs.Prelude.{None};
+    ghost use Rattle.std.specs.Prelude.{None, is_err};
     ghost use Rattle.p9_outside.specs.Adapters.{file_faults, file_taken};
-    ghost use Rattle.p9_outside.specs.Causes.{HasCause};
+    ghost use Rattle.p9_outside.specs.Causes.{CountsFault};
 
     ghost held = { λ s. None };
 
@@ -107,7 +107,7 @@ impl<'a, R: Files<File = File>> Sink for FileSink<'a, R> {
         ensures some { IfOk result (λ n. 0 < n) }
         // No bytes are told, so that this clause says nothing.
         ensures bytes { WriteAppends None None result bytes.now }
-        ensures cause { HasCause (file_faults self.old) (file_faults self.new) result }
+        ensures faults { CountsFault (is_err result) (file_faults self.old) (file_faults self.new) }
 
         ensures taken { IfOk result (λ n. file_taken self.new ≡ raised (file_taken self.old) n) }
         ensures untaken { OnErr result (file_taken self.new ≡ file_taken self.old) }

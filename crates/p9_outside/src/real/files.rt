@@ -1,6 +1,6 @@
-ghost use Rattle.std.specs.Prelude.{◌≡◌, ◌≤◌, ◌<◌, None, IsErr, IfOk, OnOk, OnErr};
-ghost use Rattle.p9_outside.specs.Adapters.{real_faults, real_closed, file_faults, file_taken};
-ghost use Rattle.p9_outside.specs.Causes.{Rose};
+ghost use Rattle.std.specs.Prelude.{◌≡◌, ◌<◌, None, IsErr, IfOk, OnOk, OnErr};
+ghost use Rattle.p9_outside.specs.Adapters.{real_faults, real_closed, file_faults, file_taken, reader_faults, reader_given};
+ghost use Rattle.p9_outside.specs.Causes.{CountsFault, is_failed};
 ghost use Rattle.p9_outside.specs.Contents.{Stay, Opens, IsFresh, Puts};
 ghost use Rattle.p9_outside.specs.Counts.{raised};
 
@@ -57,8 +57,7 @@ impl<'a, R: rt::Files<File = File>> RealFiles<'a, R> {
         ensures value { IfOk result (λ v. outcome ≡ Ok v) }
         ensures error { OnErr result (IsErr outcome) }
         ensures closed { real_closed self.new ≡ real_closed self.old }
-        ensures later { real_faults self.old ≤ real_faults self.new }
-        ensures fault { result ≡ Err FilesFault.Failed → Rose (real_faults self.old) (real_faults self.new) }
+        ensures faults { CountsFault (is_failed result) (real_faults self.old) (real_faults self.new) }
     {
         match outcome {
             Ok(value) => Ok(value),
@@ -84,9 +83,10 @@ impl<'a, R: rt::Files<File = File> + Sync> Files for RealFiles<'a, R> {
         // No contents are told, so that the first two of the trait's clauses say nothing.
         ensures contents { Stay None None }
         ensures opens { IfOk result (λ s. Opens None path.now None) }
-        ensures later { real_faults self.old ≤ real_faults self.new }
-        ensures failed { result ≡ Err FilesFault.Failed → Rose (real_faults self.old) (real_faults self.new) }
+        ensures faults { CountsFault (is_failed result) (real_faults self.old) (real_faults self.new) }
 
+        ensures given { IfOk result (λ s. reader_given s ≡ 0) }
+        ensures whole { IfOk result (λ s. reader_faults s ≡ 0) }
         ensures closed { real_closed self.new ≡ real_closed self.old }
     {
         let opened = open_source(self.rt, path);
@@ -97,10 +97,10 @@ impl<'a, R: rt::Files<File = File> + Sync> Files for RealFiles<'a, R> {
         // No contents are told, so that the first two of the trait's clauses say nothing.
         ensures contents { Stay None None }
         ensures fresh { IfOk result (λ s. IsFresh None None) }
-        ensures later { real_faults self.old ≤ real_faults self.new }
-        ensures failed { result ≡ Err FilesFault.Failed → Rose (real_faults self.old) (real_faults self.new) }
+        ensures faults { CountsFault (is_failed result) (real_faults self.old) (real_faults self.new) }
 
         ensures taken { IfOk result (λ s. file_taken s ≡ 0) }
+        ensures whole { IfOk result (λ s. file_faults s ≡ 0) }
         ensures closed { real_closed self.new ≡ real_closed self.old }
     {
         let opened = open_sink(self.rt, alloc, path);
@@ -113,8 +113,7 @@ impl<'a, R: rt::Files<File = File> + Sync> Files for RealFiles<'a, R> {
         // No contents are told, so that the first two of the trait's clauses say nothing.
         ensures ok { OnOk result (Puts None None _path.now None) }
         ensures err { OnErr result (Stay None None) }
-        ensures later { real_faults self.old ≤ real_faults self.new }
-        ensures failed { result ≡ Err FilesFault.Failed → Rose (real_faults self.old) (real_faults self.new) }
+        ensures faults { CountsFault (is_failed result) (real_faults self.old) (real_faults self.new) }
 
         ensures whole { 0 < file_faults dst.entry → IsErr result }
         ensures closed { OnOk result (real_closed self.new ≡ raised (real_closed self.old) 1) }

@@ -1,5 +1,5 @@
 ghost use Rattle.std.specs.Prelude.{◌≡◌, IfOk};
-ghost use Rattle.p9_outside.specs.Adapters.{file_taken};
+ghost use Rattle.p9_outside.specs.Adapters.{file_faults, file_taken, reader_faults, reader_given};
 
 use crate::real::location::Location;
 use crate::real::temporary::Temporary;
@@ -23,10 +23,10 @@ fn path_text(path: &[u8]) -> io::Result<&str> {
 }
 
 /// Opens a path to be read. A folder is refused now, and not at the first read.
-pub(crate) fn open_source<R: Files<File = File>>(
-    rt: &R,
-    path: &[u8],
-) -> io::Result<StdSource<File>> {
+pub(crate) fn open_source<R: Files<File = File>>(rt: &R, path: &[u8]) -> io::Result<StdSource<File>>
+    ensures given { IfOk result (λ s. reader_given s ≡ 0) }
+    ensures faults { IfOk result (λ s. reader_faults s ≡ 0) }
+{
     let file = fs::open(rt, path_text(path)?)?;
     if file.metadata()?.is_dir() {
         return Err(io::Error::from(ErrorKind::IsADirectory));
@@ -41,7 +41,8 @@ pub(crate) fn open_sink<'a, R: Files<File = File>>(
     alloc: Global,
     path: &[u8],
 ) -> io::Result<FileSink<'a, R>>
-    ensures { IfOk result (λ s. file_taken s ≡ 0) }
+    ensures taken { IfOk result (λ s. file_taken s ≡ 0) }
+    ensures faults { IfOk result (λ s. file_faults s ≡ 0) }
 {
     let path = path_text(path)?;
     let Some(target) = followed(rt, alloc, path)? else {
@@ -67,7 +68,8 @@ fn replacing<'a, R: Files<File = File>>(
     target: String,
     old: &Metadata,
 ) -> io::Result<FileSink<'a, R>>
-    ensures { IfOk result (λ s. file_taken s ≡ 0) }
+    ensures taken { IfOk result (λ s. file_taken s ≡ 0) }
+    ensures faults { IfOk result (λ s. file_faults s ≡ 0) }
 {
     let file = OpenOptions::new().write(true).open(rt, target.as_str())?;
     match Temporary::instead(rt, alloc, target, old) {
@@ -96,7 +98,8 @@ fn making<'a, R: Files<File = File>>(
     alloc: Global,
     target: String,
 ) -> io::Result<FileSink<'a, R>>
-    ensures { IfOk result (λ s. file_taken s ≡ 0) }
+    ensures taken { IfOk result (λ s. file_taken s ≡ 0) }
+    ensures faults { IfOk result (λ s. file_faults s ≡ 0) }
 {
     let (file, temporary) = Temporary::fresh(rt, alloc, target)?;
     Ok(FileSink::new(rt, file, Location::Beside(temporary)))

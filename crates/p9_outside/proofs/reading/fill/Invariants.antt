@@ -8,7 +8,7 @@ invariant-loop-len g l = record {
   most : l.len ≤ l.n;
   spare : l.n ≤ l.len + l.room.spare;
   bytes : Consumes (g.S.Source.left l.initial.source) (g.S.Source.left l.source) l.room.items;
-  later : g.S.Source.faults l.initial.source ≤ g.S.Source.faults l.source;
+  none_failed : g.S.Source.faults l.source ≡ g.S.Source.faults l.initial.source;
 }
 
 abbrev pub decreases-loop-len : goal.decreases-loop-len

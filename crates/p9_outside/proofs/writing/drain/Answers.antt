@@ -7,5 +7,5 @@ loop-done-preserved g c =
     record {
       most = search rules;
       bytes = rw take_next (appends_more _ _ _ _ _ c.loop-done.invariant.bytes c.in-Ok.ensures.bytes);
-      later = search rules;
+      none_failed = search rules;
     }
