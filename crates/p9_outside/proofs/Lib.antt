@@ -1,5 +1,6 @@
 pub mod Streams
 pub mod Fronts
 pub mod Reached
+pub mod DeviceRuns
 pub mod FileRuns
 pub mod MemoryEntries

@@ -9,10 +9,13 @@ abbrev pub CountsFault : Bool → ℕ → ℕ → Type 0
 CountsFault failed before now = now ≡ (if failed then raised before 1 else before)
 
 -- whether a call on files failed; want of memory is no failure
+abbrev pub is_failure : FilesFault → Bool
+is_failure Failed = true
+is_failure Memory = false
+
 abbrev pub is_failed : {T : Type 0} → Result T FilesFault → Bool
 is_failed (Ok v) = false
-is_failed (Err Failed) = true
-is_failed (Err Memory) = false
+is_failed (Err fault) = is_failure fault
 
 -- the count has risen, or stands at the greatest u64, which is taken as having risen
 abbrev pub Rose : ℕ → ℕ → Type 0

@@ -9,7 +9,8 @@ use Rattle.p9_outside.specs.declared.file_device.FileDevice.TheVariants.{In, Out
 use Rattle.p9_outside.specs.declared.reading.ReadDevice.{ReadDevice}
 use Rattle.p9_outside.specs.declared.writing.WriteDevice.{WriteDevice}
 use Rattle.p9_outside.specs.Counts.{raised}
-use Rattle.p9_outside.specs.FileServices.{FileServes, failures}
+use Rattle.p9_outside.specs.DeviceRuns.{failures}
+use Rattle.p9_outside.specs.FileServices.{FileServes}
 use Rattle.p9_outside.specs.Reached.{Reached}
 use Rattle.p9_outside.specs.Reading.{reader_at, FullReads}
 use Rattle.p9_outside.specs.Writing.{writer_at}

@@ -2,6 +2,7 @@ pub mod Adapters
 pub mod Causes
 pub mod Contents
 pub mod Counts
+pub mod DeviceRuns
 pub mod FileRuns
 pub mod FileServices
 pub mod Memory

@@ -11,11 +11,24 @@ pub enum FileDevice<S, K> {
 }
 
 impl<S: Source, K: Sink> Device for FileDevice<S, K> {
-    ghost use Rattle.p9_outside.specs.FileServices.{FileServes, file_fits};
+    ghost use Rattle.p9_outside.specs.FileServices.{FileServes, file_left, file_held, fault_count};
+    ghost use Rattle.p9_outside.specs.FileServices.{file_fits, file_gives, file_takes, file_counts};
 
     ghost serves = { λ old call effect new. FileServes S.left S.faults K.held K.faults old call effect new };
 
+    ghost left = { λ d. file_left S.left d };
+
+    ghost held = { λ d. file_held K.held d };
+
+    ghost faults = { λ d. fault_count S.faults K.faults d };
+
     ghost fits = { λ old call effect new done. file_fits S.left S.faults K.held K.faults old call effect new done };
+
+    ghost gives = { λ old call effect new done. file_gives S.left S.faults K.held K.faults old call effect new done };
+
+    ghost takes = { λ old call effect new done. file_takes S.left S.faults K.held K.faults old call effect new done };
+
+    ghost counts = { λ old call effect new done. file_counts S.left S.faults K.held K.faults old call effect new done };
 
     fn serve(&mut self, call: &IoCall, room: Room<u8>) -> Effect {
         match self {

@@ -3,6 +3,7 @@
 
 ghost use Rattle.std.specs.Prelude.{ℕ, List, [], Option};
 ghost use Rattle.std.specs.Io.KnownBytes.{Consumes, Appends};
+ghost use Rattle.p9_outside.specs.DeviceRuns.{DevicesRun};
 ghost use Rattle.p9_outside.specs.FileRuns.{FilesRun, UntoldAreFull};
 ghost use Rattle.p9_outside.specs.Reached.{LeadOn};
 
@@ -11,6 +12,11 @@ use crate::{Device, Sink, Source};
 /// One service more leads on from the state that a device had reached.
 pub fn services_lead_on<D: Device>()
     ensures { LeadOn D.serves }
+{}
+
+/// What the services of any device come to, one after the other.
+pub fn devices_run<D: Device>()
+    ensures { DevicesRun D.serves D.left D.held D.faults }
 {}
 
 /// What the services of a file come to, one after the other.

@@ -95,11 +95,24 @@ impl<S: Source> ReadDevice<S> {
 }
 
 impl<S: Source> Device for ReadDevice<S> {
-    ghost use Rattle.p9_outside.specs.Reading.{ReadServes};
+    ghost use Rattle.std.specs.Prelude.{None};
+    ghost use Rattle.p9_outside.specs.Reading.{ReadServes, source_of};
 
     ghost serves = { λ old call effect new. ReadServes S.left S.faults old call effect new };
 
+    ghost left = { λ d. S.left (source_of d) };
+
+    ghost held = { λ d. None };
+
+    ghost faults = { λ d. S.faults (source_of d) };
+
     ghost fits = { λ old call effect new done. done.file.fits };
+
+    ghost gives = { λ old call effect new done. done.bytes };
+
+    ghost takes = { λ old call effect new done. tt };
+
+    ghost counts = { λ old call effect new done. done.tells };
 
     fn serve(&mut self, call: &IoCall, room: Room<u8>) -> Effect {
         match call {

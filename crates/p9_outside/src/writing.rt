@@ -56,11 +56,24 @@ impl<K: Sink> WriteDevice<K> {
 }
 
 impl<K: Sink> Device for WriteDevice<K> {
-    ghost use Rattle.p9_outside.specs.Writing.{WriteServes};
+    ghost use Rattle.std.specs.Prelude.{None};
+    ghost use Rattle.p9_outside.specs.Writing.{WriteServes, sink_of};
 
     ghost serves = { λ old call effect new. WriteServes K.held K.faults old call effect new };
 
+    ghost left = { λ d. None };
+
+    ghost held = { λ d. K.held (sink_of d) };
+
+    ghost faults = { λ d. K.faults (sink_of d) };
+
     ghost fits = { λ old call effect new done. done.file.fits };
+
+    ghost gives = { λ old call effect new done. tt };
+
+    ghost takes = { λ old call effect new done. done.bytes };
+
+    ghost counts = { λ old call effect new done. done.tells };
 
     fn serve(&mut self, call: &IoCall, _room: Room<u8>) -> Effect {
         match call {

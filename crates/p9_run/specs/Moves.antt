@@ -7,7 +7,7 @@ use Rattle.p9_manual.specs.Files.{TreatsAsFile, at_first, given, joined, written
 use Rattle.p9_manual.specs.FilesInHistory.{services_at, IsDone}
 use Rattle.p9_outside.specs.Causes.{RoseBy}
 use Rattle.p9_outside.specs.Reading.{FullReads}
-use Rattle.p9_outside.specs.FileServices.{failures}
+use Rattle.p9_outside.specs.DeviceRuns.{failures}
 
 -- the history runs the programs, treats file 1 as one that is read and file 2 as one that is written, and leaves no
 -- call begun
