@@ -1,12 +1,12 @@
 -- What a call does to a count of faults: the count rises by just one where the call failed, and else it stays.
-use Rattle.std.specs.Prelude.{ℕ, ◌≡◌, ◌+◌, ◌-◌, ◌^◌, ◌≤◌, min, Bool, true, false, Result, Ok, Err, if◌then◌else◌}
+use Rattle.std.specs.Prelude.{ℕ, ◌≡◌, ◌+◌, ◌-◌, ◌^◌, ◌≤◌, min, Bool, true, false, Result, Ok, Err}
 use Rattle.p9_outside.specs.declared.files.FilesFault.{FilesFault}
 use Rattle.p9_outside.specs.declared.files.FilesFault.TheVariants.{Failed, Memory}
-use Rattle.p9_outside.specs.Counts.{raised}
+use Rattle.p9_outside.specs.Counts.{raised_if}
 
 -- one more where the call failed, but that the greatest u64 stands, and else as before
 abbrev pub CountsFault : Bool → ℕ → ℕ → Type 0
-CountsFault failed before now = now ≡ (if failed then raised before 1 else before)
+CountsFault failed before now = now ≡ raised_if failed before
 
 -- whether a call on files failed; want of memory is no failure
 abbrev pub is_failure : FilesFault → Bool

@@ -4,13 +4,16 @@ ghost use Rattle.p9_outside.specs.Contents.{Told, Stay, Opens, IsFresh, Puts};
 
 use crate::{Sink, Source};
 use std::alloc::Global;
+use thiserror::Error;
 
 /// Why a call on files did not do what was asked. No contents have changed.
-#[derive(Clone, Copy, Debug, PartialEq, Eq)]
+#[derive(Clone, Copy, Debug, PartialEq, Eq, Error)]
 pub enum FilesFault {
     /// The file can't be opened or closed, and the count of faults has risen.
+    #[error("the file can't be opened or closed")]
     Failed,
     /// Memory was wanted.
+    #[error("memory was wanted")]
     Memory,
 }
 

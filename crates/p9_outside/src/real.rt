@@ -2,6 +2,7 @@ mod closings;
 mod file_sink;
 mod files;
 mod folder;
+mod in_place;
 mod location;
 mod opening;
 mod std_sink;

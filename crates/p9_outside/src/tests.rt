@@ -2,8 +2,8 @@ ghost use Rattle.std.specs.Prelude.{◌<◌, ◌≤◌, ◌^◌};
 ghost use Rattle.p9_manual.specs.Effects.{message_length, room_for};
 
 use crate::{
-    Device, FileDevice, Files, FilesFault, MemFiles, MemSink, MemSource, PathFail, ReadDevice,
-    RealFiles, Sink, Source, StdSink, StdSource, WriteDevice, drain,
+    Device, Failed, FileDevice, Files, FilesFault, MemFiles, MemSink, MemSource, PathFail,
+    ReadDevice, RealFiles, Sink, Source, StdSink, StdSource, WriteDevice, drain,
 };
 use p9_word::{Effect, IoCall, Msg, NoMemory, Room, Seq};
 use std::alloc::Global;
@@ -66,6 +66,16 @@ fn expect_effect<D: Device>(
 {
     let text = told(alloc, device, call)?;
     assert_eq!(rt; text.as_str(), wanted);
+    Ok(())
+}
+
+#[test]
+fn faults_have_texts(rt: HostRuntime) -> Result<(), Fail> {
+    let text = format!(in rt.alloc(); "{Failed}; {}; {}", FilesFault::Failed, FilesFault::Memory)?;
+    assert_eq!(rt;
+        text.as_str(),
+        "a read or a write failed; the file can't be opened or closed; memory was wanted"
+    );
     Ok(())
 }
 
@@ -152,8 +162,10 @@ fn std_readers_and_writers_are_sources_and_sinks(rt: HostRuntime) -> Result<(), 
     assert_eq!(rt; source.read(&mut buf).ok(), Some(6));
     assert_eq!(rt; source.read(&mut buf).ok(), Some(0));
     assert_eq!(rt; &buf, b"six by\0\0");
+    assert_eq!(rt; source.given(), 6);
     let mut folder = StdSource::new(File::open(&rt, ".")?);
     assert!(rt; folder.read(&mut buf).is_err());
+    assert_eq!(rt; folder.given(), 0);
     let mut full = StdSink::new(File::create(&rt, "/dev/full")?);
     assert_eq!(rt; drain(&mut full, b"six by"), 0);
     assert_eq!(rt; full.taken(), 0);
@@ -161,15 +173,19 @@ fn std_readers_and_writers_are_sources_and_sinks(rt: HostRuntime) -> Result<(), 
     Ok(())
 }
 
-/// Writes new contents to a path of the system.
-fn write_through(rt: &HostRuntime, path: &[u8]) -> Result<(), Fail> {
+/// Writes new contents to a path of the system, in place or under a temporary name.
+fn write_through(rt: &HostRuntime, path: &[u8], is_in_place: bool) -> Result<(), Fail> {
     let mut files = RealFiles::new(rt);
     let mut sink = opens(files.sink(rt.alloc(), path))?;
     if drain(&mut sink, b"new") < 3 {
         return Err(Fail::from("not written"));
     }
+    if sink.is_in_place() != is_in_place {
+        return Err(Fail::from("opened otherwise"));
+    }
     opens(files.close(path, sink))?;
-    if files.closed() != 1 {
+    let counts = (files.replaced(), files.written_in_place());
+    if counts != if is_in_place { (0, 1) } else { (1, 0) } {
         return Err(Fail::from("not counted"));
     }
     Ok(())
@@ -191,9 +207,10 @@ fn real_files_are_replaced_only_when_whole(rt: HostRuntime) -> Result<(), Fail> 
         assert!(rt; fs::exists(&rt, ".out.txt.p9pipe-1.tmp")?);
     }
     assert!(rt; !fs::exists(&rt, ".out.txt.p9pipe-1.tmp")?);
-    assert_eq!(rt; files.closed(), 0);
+    assert_eq!(rt; files.replaced(), 0);
     opens(files.close(b"out.txt", sink))?;
-    assert_eq!(rt; files.closed(), 1);
+    assert_eq!(rt; files.replaced(), 1);
+    assert_eq!(rt; files.written_in_place(), 0);
     assert_eq!(rt; fs::read_to_string(&rt, "out.txt")?.as_str(), "new");
     assert!(rt; !fs::exists(&rt, ".out.txt.p9pipe-0.tmp")?);
     assert_eq!(rt;
@@ -224,9 +241,9 @@ fn real_paths_are_taken_as_a_filter_takes_them(rt: HostRuntime) -> Result<(), Fa
     fs::write(&rt, "folder/real.txt", "old")?;
     symlink(&rt, "folder/real.txt", "link.txt")?;
     symlink(&rt, "made.txt", "folder/dangling.txt")?;
-    write_through(&rt, b"link.txt")?;
-    write_through(&rt, b"folder/dangling.txt")?;
-    write_through(&rt, b"/dev/null")?;
+    write_through(&rt, b"link.txt", false)?;
+    write_through(&rt, b"folder/dangling.txt", false)?;
+    write_through(&rt, b"/dev/null", true)?;
     assert!(rt; fs::symlink_metadata(&rt, "link.txt")?.is_symlink());
     assert_eq!(rt; fs::read_to_string(&rt, "folder/real.txt")?.as_str(), "new");
     assert!(rt; fs::symlink_metadata(&rt, "folder/dangling.txt")?.is_symlink());

@@ -6,10 +6,10 @@ use std::io::{Seek, SeekFrom};
 use std::rt::Files;
 use std::{fs, io};
 
-/// How many files have been closed. At the greatest u64 the count stands.
+/// How many temporary files have taken the place of their targets. At the greatest u64 the count stands.
 ///
-/// It rises in three ways alone: where the system has given a temporary file the name of its target, where
-/// a temporary file has been copied over its target, and where a file that was written in place is let go.
+/// It rises in two ways alone: where the system has given a temporary file the name of its target, and where
+/// a temporary file has been copied over its target.
 #[derive(Drop)]
 pub(crate) struct Closings {
     count: u64,
@@ -30,14 +30,6 @@ impl Closings {
         ensures { result ≡ closed_count self.now }
     {
         self.count
-    }
-
-    /// Lets go of a file that was written in place.
-    pub(crate) fn let_go(&mut self, file: File)
-        ensures { closed_count self.new ≡ raised (closed_count self.old) 1 }
-    {
-        drop(file);
-        self.count = self.count.saturating_add(1);
     }
 
     /// Gives a file another name. A file that has the name is replaced.

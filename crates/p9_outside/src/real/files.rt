@@ -1,10 +1,11 @@
-ghost use Rattle.std.specs.Prelude.{◌≡◌, ◌<◌, None, IsErr, IfOk, OnOk, OnErr};
-ghost use Rattle.p9_outside.specs.Adapters.{real_faults, real_closed, file_faults, file_taken, reader_faults, reader_given};
+ghost use Rattle.std.specs.Prelude.{◌≡◌, ◌<◌, None, IsErr, IfOk, OnOk, OnErr, not};
+ghost use Rattle.p9_outside.specs.Adapters.{real_faults, real_replaced, real_in_place, file_faults, file_in_place, file_taken, reader_faults, reader_given};
 ghost use Rattle.p9_outside.specs.Causes.{CountsFault, is_failed};
 ghost use Rattle.p9_outside.specs.Contents.{Stay, Opens, IsFresh, Puts};
-ghost use Rattle.p9_outside.specs.Counts.{raised};
+ghost use Rattle.p9_outside.specs.Counts.{raised_if};
 
 use crate::real::closings::Closings;
+use crate::real::in_place::InPlace;
 use crate::real::opening::{open_sink, open_source};
 use crate::{FileSink, Files, FilesFault, StdSource};
 use std::alloc::Global;
@@ -13,7 +14,7 @@ use std::io::ErrorKind;
 use std::{io, rt};
 
 /// The files of the system, by paths that are UTF-8. They tell no contents, but count the files that were
-/// closed.
+/// closed: those that took the place of their path's old ones apart from those that were written in place.
 ///
 /// An output file keeps its old contents until its sink is closed, also where the run is killed, and for
 /// good where a write has failed. It keeps its mode, and where that is allowed its owner and group. A link is
@@ -29,34 +30,46 @@ pub struct RealFiles<'a, R> {
     rt: &'a R,
     faults: u64,
     closings: Closings,
+    in_place: InPlace,
 }
 
 impl<'a, R: rt::Files<File = File>> RealFiles<'a, R> {
     /// The files of this runtime, with no fault so far, and none closed.
     pub fn new(rt: &'a R) -> RealFiles<'a, R>
         ensures faults { real_faults result ≡ 0 }
-        ensures closed { real_closed result ≡ 0 }
+        ensures replaced { real_replaced result ≡ 0 }
+        ensures in_place { real_in_place result ≡ 0 }
     {
         RealFiles {
             rt,
             faults: 0,
             closings: Closings::new(),
+            in_place: InPlace::new(),
         }
     }
 
-    /// How many files have been closed: how many calls of [`Files::close`] answered `Ok`. At the greatest
-    /// u64 the count stands.
-    pub fn closed(&self) -> u64
-        ensures { result ≡ real_closed self.now }
+    /// How many calls of [`Files::close`] answered `Ok` for a file that stood under a temporary name: it was
+    /// renamed then, or copied over the old one. At the greatest u64 the count stands.
+    pub fn replaced(&self) -> u64
+        ensures { result ≡ real_replaced self.now }
     {
         self.closings.count()
+    }
+
+    /// How many calls of [`Files::close`] answered `Ok` for a file that was written in place. At the greatest
+    /// u64 the count stands.
+    pub fn written_in_place(&self) -> u64
+        ensures { result ≡ real_in_place self.now }
+    {
+        self.in_place.count()
     }
 
     /// What an outcome is told as. An error but want of memory is counted.
     fn told<T: Drop>(&mut self, outcome: io::Result<T>) -> Result<T, FilesFault>
         ensures value { IfOk result (λ v. outcome ≡ Ok v) }
         ensures error { OnErr result (IsErr outcome) }
-        ensures closed { real_closed self.new ≡ real_closed self.old }
+        ensures replaced { real_replaced self.new ≡ real_replaced self.old }
+        ensures in_place { real_in_place self.new ≡ real_in_place self.old }
         ensures faults { CountsFault (is_failed result) (real_faults self.old) (real_faults self.new) }
     {
         match outcome {
@@ -73,7 +86,7 @@ impl<'a, R: rt::Files<File = File>> RealFiles<'a, R> {
 impl<'a, R: rt::Files<File = File> + Sync> Files for RealFiles<'a, R> {
     type Src = StdSource<File>;
 
-    type Dst = FileSink<'a, R>;
+    type Dst = FileSink<'a, R, File>;
 
     ghost contents = { λ f. None };
 
@@ -87,13 +100,14 @@ impl<'a, R: rt::Files<File = File> + Sync> Files for RealFiles<'a, R> {
 
         ensures given { IfOk result (λ s. reader_given s ≡ 0) }
         ensures whole { IfOk result (λ s. reader_faults s ≡ 0) }
-        ensures closed { real_closed self.new ≡ real_closed self.old }
+        ensures replaced { real_replaced self.new ≡ real_replaced self.old }
+        ensures in_place { real_in_place self.new ≡ real_in_place self.old }
     {
         let opened = open_source(self.rt, path);
         self.told(opened)
     }
 
-    fn sink(&mut self, alloc: Global, path: &[u8]) -> Result<FileSink<'a, R>, FilesFault>
+    fn sink(&mut self, alloc: Global, path: &[u8]) -> Result<FileSink<'a, R, File>, FilesFault>
         // No contents are told, so that the first two of the trait's clauses say nothing.
         ensures contents { Stay None None }
         ensures fresh { IfOk result (λ s. IsFresh None None) }
@@ -101,25 +115,30 @@ impl<'a, R: rt::Files<File = File> + Sync> Files for RealFiles<'a, R> {
 
         ensures taken { IfOk result (λ s. file_taken s ≡ 0) }
         ensures whole { IfOk result (λ s. file_faults s ≡ 0) }
-        ensures closed { real_closed self.new ≡ real_closed self.old }
+        ensures replaced { real_replaced self.new ≡ real_replaced self.old }
+        ensures in_place { real_in_place self.new ≡ real_in_place self.old }
     {
         let opened = open_sink(self.rt, alloc, path);
         self.told(opened)
     }
 
-    /// [`RealFiles::closed`] rises by 1 where the answer is `Ok`, and stays where it is an error. A sink that
-    /// met a failure is never closed well.
-    fn close(&mut self, _path: &[u8], dst: FileSink<'a, R>) -> Result<(), FilesFault>
+    /// Where the answer is `Ok` one count rises by just one, by how the file was opened: that of
+    /// [`RealFiles::written_in_place`] where [`FileSink::is_in_place`] tells so, and else that of
+    /// [`RealFiles::replaced`]. The other one stays, and at an error both do. A sink that met a failure is
+    /// never closed well.
+    fn close(&mut self, _path: &[u8], dst: FileSink<'a, R, File>) -> Result<(), FilesFault>
         // No contents are told, so that the first two of the trait's clauses say nothing.
         ensures ok { OnOk result (Puts None None _path.now None) }
         ensures err { OnErr result (Stay None None) }
         ensures faults { CountsFault (is_failed result) (real_faults self.old) (real_faults self.new) }
 
         ensures whole { 0 < file_faults dst.entry → IsErr result }
-        ensures closed { OnOk result (real_closed self.new ≡ raised (real_closed self.old) 1) }
-        ensures unclosed { OnErr result (real_closed self.new ≡ real_closed self.old) }
+        ensures replaced { OnOk result (real_replaced self.new ≡ raised_if (not (file_in_place dst.entry)) (real_replaced self.old)) }
+        ensures in_place { OnOk result (real_in_place self.new ≡ raised_if (file_in_place dst.entry) (real_in_place self.old)) }
+        ensures unreplaced { OnErr result (real_replaced self.new ≡ real_replaced self.old) }
+        ensures unplaced { OnErr result (real_in_place self.new ≡ real_in_place self.old) }
     {
-        let finished = dst.finish(&mut self.closings);
+        let finished = dst.finish(&mut self.closings, &mut self.in_place);
         self.told(finished)
     }
 }

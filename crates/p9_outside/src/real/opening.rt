@@ -40,7 +40,7 @@ pub(crate) fn open_sink<'a, R: Files<File = File>>(
     rt: &'a R,
     alloc: Global,
     path: &[u8],
-) -> io::Result<FileSink<'a, R>>
+) -> io::Result<FileSink<'a, R, File>>
     ensures taken { IfOk result (λ s. file_taken s ≡ 0) }
     ensures faults { IfOk result (λ s. file_faults s ≡ 0) }
 {
@@ -67,7 +67,7 @@ fn replacing<'a, R: Files<File = File>>(
     alloc: Global,
     target: String,
     old: &Metadata,
-) -> io::Result<FileSink<'a, R>>
+) -> io::Result<FileSink<'a, R, File>>
     ensures taken { IfOk result (λ s. file_taken s ≡ 0) }
     ensures faults { IfOk result (λ s. file_faults s ≡ 0) }
 {
@@ -97,7 +97,7 @@ fn making<'a, R: Files<File = File>>(
     rt: &'a R,
     alloc: Global,
     target: String,
-) -> io::Result<FileSink<'a, R>>
+) -> io::Result<FileSink<'a, R, File>>
     ensures taken { IfOk result (λ s. file_taken s ≡ 0) }
     ensures faults { IfOk result (λ s. file_faults s ≡ 0) }
 {
