@@ -13,3 +13,5 @@ pub mod Faults
 pub mod Runs
 pub mod CopyRuns
 pub mod EngineSteps
+mod StageExamples
+mod ReportExamples

@@ -6,8 +6,6 @@ mod command;
 mod copy_files;
 mod copy_programs;
 mod copy_setup;
-#[cfg(test)]
-mod copy_tests;
 mod copy_text;
 mod engine;
 mod file_text;
@@ -20,8 +18,6 @@ mod report;
 mod rounds;
 mod run_files;
 mod stage;
-#[cfg(test)]
-mod tests;
 mod writer;
 
 pub use program::{Outcome, pipe_main};
