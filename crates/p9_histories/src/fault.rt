@@ -7,8 +7,10 @@ use std::fmt;
 pub(crate) enum Fault {
     /// A line isn't understood.
     NotUnderstood,
-    /// A history's first line asks for what no run can start from.
-    NoStart,
+    /// A history's first line asks for more threads than any run has.
+    ManyThreads,
+    /// An entry of the trail of a history isn't equal to its copy.
+    OtherCopy,
     /// There is no memory.
     NoMemory,
     /// The script can't be read, or is no text.
@@ -30,7 +32,8 @@ impl fmt::Display for Fault {
     fn fmt<W: fmt::Write>(&self, f: &mut fmt::Formatter<W>) -> fmt::Result {
         match self {
             Fault::NotUnderstood => write!(f, "not understood"),
-            Fault::NoStart => write!(f, "no run can start from this"),
+            Fault::ManyThreads => write!(f, "more threads than any run has"),
+            Fault::OtherCopy => write!(f, "an entry differs from its copy"),
             Fault::NoMemory => write!(f, "out of memory"),
             Fault::Input => write!(f, "the script can't be read"),
             Fault::Output => write!(f, "the output isn't taken"),

@@ -19,11 +19,13 @@
 //! An event without a seat is one of proc 1. Requests are named as in the manual, and what follows a name is what
 //! the request's fields are, in order: numbers, texts between single quotes, and `null` and `keep`. Of an event
 //! that happens several times the first and the last reply are printed. Blank lines and lines that begin with `#`
-//! count for nothing. A line that isn't understood ends the program with its number and status 1.
+//! count for nothing. A history that no run can start is its first line alone, which is printed with that. A line that
+//! isn't understood ends the program with its number and status 1.
 #![tactic(auto)]
 
 mod alts;
 mod chan_requests;
+mod crossing;
 mod fault;
 mod io_requests;
 mod lines;
@@ -34,6 +36,7 @@ mod setup;
 mod thread_requests;
 mod words;
 
+use crate::crossing::all_cross;
 use crate::fault::{Failure, Fault};
 use crate::play::plays_all;
 use crate::script::rows_of;
@@ -69,6 +72,7 @@ fn tell(rt: &impl Eprint, failure: Failure) {
 }
 
 fn main(rt: HostRuntime) -> ExitCode {
+    all_cross();
     match run(&rt) {
         Ok(()) => ExitCode::from(0),
         Err(failure) => {

@@ -9,7 +9,7 @@ use crate::replies::reply_text;
 use crate::script::Row;
 use crate::setup::read_setup;
 use p9_machine::Machine;
-use p9_word::{Datum, Event, NoMemory, Reply, Seat, Setup};
+use p9_word::{Datum, Event, NoMemory, Reply, Seat, Setup, Trail};
 use std::alloc::Global;
 
 /// Whether an ioproc tells what its call came to.
@@ -117,7 +117,17 @@ fn plays_history(
     plays_rows(rt, alloc, machine, rows)
 }
 
-/// Plays the history on a machine of its own, which starts from this setup.
+/// Each entry of a trail is equal to its copy.
+fn equals_its_copy(alloc: Global, trail: &Trail) -> Result<(), Fault> {
+    for entry in trail.entries.as_slice() {
+        if !entry.copied(alloc)?.is_same(entry) {
+            return Err(Fault::OtherCopy);
+        }
+    }
+    Ok(())
+}
+
+/// Plays the history on a machine of its own, which starts from this setup, and looks at its trail.
 fn plays_from(
     rt: &impl Print,
     alloc: Global,
@@ -131,14 +141,15 @@ fn plays_from(
     match Machine::new(alloc, setup) {
         Ok(mut machine) => {
             let played = plays_history(rt, alloc, &mut machine, first, rows);
-            let _trail = machine.into_trail();
-            played
+            let trail = machine.into_trail();
+            played?;
+            equals_its_copy(alloc, &trail).map_err(|fault| first.fails(fault))
         }
         Err(NoMemory) => Err(first.fails(Fault::NoMemory)),
     }
 }
 
-/// A history whose setup no run can start from isn't played.
+/// A history whose setup no run can start from isn't played, and says so.
 fn plays_if_valid(
     rt: &impl Print,
     alloc: Global,
@@ -149,10 +160,10 @@ fn plays_if_valid(
     requires { IsPlain setup.now }
 {
     if setup.is_valid() {
-        plays_from(rt, alloc, setup, first, rows)
-    } else {
-        Err(first.fails(Fault::NoStart))
+        return plays_from(rt, alloc, setup, first, rows);
     }
+    let text = first.text;
+    println!(rt; "{text} => no run can start from this").map_err(|_| first.fails(Fault::Output))
 }
 
 /// Plays the history that begins with this row, on a machine of its own.

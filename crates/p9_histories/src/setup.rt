@@ -69,7 +69,7 @@ fn setup_of(alloc: Global, sizes: Sizes, threads: Seq<ThreadSetup>, chans: Seq<C
 fn thread_count(words: &mut Words) -> Result<u32, Fault> {
     let count = words.id_after("threads", 1)?;
     if count > 65536 {
-        Err(Fault::NoStart)
+        Err(Fault::ManyThreads)
     } else {
         Ok(count)
     }
