@@ -14,6 +14,3 @@ mod zeros;
 
 pub use alts::Alts;
 pub use offer::{Offer, Wake};
-
-#[cfg(test)]
-mod tests;

@@ -9,6 +9,3 @@ mod stored;
 
 pub use chans::Chans;
 pub use p9_manual::Element;
-
-#[cfg(test)]
-mod tests;

@@ -27,7 +27,7 @@ impl fmt::Display for Messages<'_> {
     }
 }
 
-/// What stands in the file that is copied to, beside what was copied.
+/// How the file that is copied to goes with the file that is copied.
 #[derive(Clone, Copy)]
 enum Out {
     /// It isn't there.

@@ -12,6 +12,3 @@ mod ioprocs;
 
 pub use board::IoBoard;
 pub use effects::Finished;
-
-#[cfg(test)]
-mod tests;

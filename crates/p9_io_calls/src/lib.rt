@@ -11,6 +11,3 @@ mod spare;
 pub use events::{did, take};
 pub use requests::call;
 pub use spare::{Spare, reserve};
-
-#[cfg(test)]
-mod tests;

@@ -17,6 +17,3 @@ mod turns;
 
 pub use sched::Sched;
 pub use turns::{Place, Ready};
-
-#[cfg(test)]
-mod tests;

@@ -30,6 +30,3 @@ pub use room::Room;
 pub use seq::Seq;
 pub use setup::{ChanSetup, Setup, ThreadSetup};
 pub use trail::{Entry, Event, Reply, Seat, Trail};
-
-#[cfg(test)]
-mod tests;

@@ -3,6 +3,7 @@ ghost use Rattle.std.specs.Prelude.{◌≡◌, [], ◌≤◌, length, IfOk};
 use crate::NoMemory;
 use std::alloc::Global;
 use std::marker::Model;
+use std::mem::size_of;
 use std::sync::Arc;
 
 /// The most bytes that a message keeps in place.
@@ -15,6 +16,8 @@ pub(crate) const SHORT: usize = 14;
 pub struct Msg {
     form: Form,
 }
+
+const _: () = prove!(size_of::<Msg>() == 16);
 
 /// Where the bytes of a message stand.
 #[derive(Drop)]
