@@ -1,3 +1,4 @@
+pub mod Bounds
 pub mod Callers
 pub mod Deals
 pub mod Fitting

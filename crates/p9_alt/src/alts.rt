@@ -95,7 +95,7 @@ impl Alts {
         ensures waits { self.new.waits ≡ self.old.waits }
         ensures memory { OnOk result (HasMemory entries.now self.new) }
     {
-        let zeros = most_zeros(&self.chans, &self.waits, entries.as_slice());
+        let zeros = most_zeros(&self.chans, entries.as_slice());
         self.make_room(zeros)
     }
 
@@ -107,7 +107,7 @@ impl Alts {
         ensures memory { OnOk result (HasMemory (entry.now ∷ []) self.new) }
     {
         self.lists.reserve()?;
-        let zeros = zeros_for(&self.chans, &self.waits, entry);
+        let zeros = zeros_for(&self.chans, entry);
         self.make_room(zeros)
     }
 

@@ -5,7 +5,6 @@ ghost use Rattle.p9_manual.specs.Told.{kept_bytes, sent_bytes, sender_bytes};
 ghost use Rattle.p9_manual.specs.AltEntries.{is_nop, sends_to, sends_on, first_slot};
 ghost use Rattle.p9_manual.specs.ReadyEntries.{fits, fits_entry, goes_with, is_too_long};
 ghost use Rattle.p9_alt.specs.Exchange.{zeros_in};
-ghost use Rattle.p9_alt.specs.Sides.{entry_test};
 
 use crate::side::Side;
 use crate::zeros::Zeros;
@@ -119,16 +118,6 @@ pub(crate) fn zeros_in(elsize: u32, slot: &Slot) -> u32
     match slot {
         Slot::Null => elsize,
         _ => 0,
-    }
-}
-
-/// How many the first entry needs that does this on channel c.
-pub(crate) fn zeros_at(elsize: u32, side: Side, c: u32, entries: &[AltEntry]) -> u32
-    ensures { result ≡ zeros_in elsize (first_slot (entry_test side c) entries.now) }
-{
-    match entries.get(side.first_number(c, entries)) {
-        Some(e) => zeros_in(elsize, &e.slot),
-        None => elsize,
     }
 }
 

@@ -5,10 +5,13 @@ use std::alloc::Global;
 use std::marker::Model;
 use std::mem;
 
-/// Memory for one list of one entry. Contracts see whether it is there.
+/// Memory for one list of one entry, and maybe for another. Contracts see whether the first is there.
+///
+/// Where a value passes, two lists are done with: that of the caller, and that of the thread that waited.
 #[derive(Drop)]
 pub(crate) struct Lists {
     one: Option<Seq<AltEntry>>,
+    other: Option<Seq<AltEntry>>,
     alloc: Global,
 }
 
@@ -19,7 +22,7 @@ impl Model for Lists {
 
     ghost view = { λ l. is_some l.one };
 
-    ghost invariant = { λ l. IfSome l.one (λ es. length es ≡ 1) };
+    ghost invariant = { λ l. IfSome l.one (λ es. length es ≡ 1) × IfSome l.other (λ es. length es ≡ 1) };
 }
 
 /// A list of one entry, which is out of use.
@@ -56,7 +59,11 @@ impl Lists {
     pub fn new(alloc: Global) -> Lists
         ensures { result ≡ false }
     {
-        Lists { one: None, alloc }
+        Lists {
+            one: None,
+            other: None,
+            alloc,
+        }
     }
 
     /// Takes the memory, if it isn't there.
@@ -64,9 +71,20 @@ impl Lists {
         ensures { OnOk result (self.new ≡ true) }
     {
         if self.one.is_none() {
-            self.one = Some(blank_list(self.alloc)?);
+            self.one = Some(self.another()?);
         }
         Ok(())
+    }
+
+    /// The other list, if it is there, or a new one.
+    fn another(&mut self) -> Result<Seq<AltEntry>, NoMemory>
+        ensures list { IfOk result (λ es. length es ≡ 1) }
+        ensures one { self.new ≡ self.old }
+    {
+        match self.other.take() {
+            Some(list) => Ok(list),
+            None => blank_list(self.alloc),
+        }
     }
 
     /// The list of this entry alone.
@@ -81,12 +99,17 @@ impl Lists {
         }
     }
 
-    /// Keeps the memory of a list that is done with, if it has one entry and none is kept.
+    /// Keeps the memory of a list that is done with, if it has one entry and fewer than two are kept.
     pub fn keep(&mut self, list: Seq<AltEntry>)
         ensures { self.old ≡ true → self.new ≡ true }
     {
-        if self.one.is_none() && list.len() == 1 {
+        if list.len() != 1 {
+            return;
+        }
+        if self.one.is_none() {
             self.one = Some(list);
+        } else if self.other.is_none() {
+            self.other = Some(list);
         }
     }
 }

@@ -1,6 +1,5 @@
 ghost use Rattle.std.specs.Prelude.{◌≡◌, ◌≤◌, length, slice_get, count_by, IfSome};
 ghost use Rattle.std.specs.List.{list_any, find};
-ghost use Rattle.std.specs.Option.{option_copied};
 ghost use Rattle.p9_alt.specs.Exchange.{others};
 ghost use Rattle.p9_alt.specs.Kept.{IsQueue};
 ghost use Rattle.p9_alt.specs.Passing.{without, IsLess};
@@ -32,13 +31,6 @@ pub(crate) fn awaiting(waits: &[Party], side: Side, c: u32) -> usize
     ensures { result ≡ count_by (party_test side c) waits.now }
 {
     waits.iter().filter(|w| side.is_in(c, w)).count()
-}
-
-/// The thread that waits longest of those that do this on channel c.
-pub(crate) fn first(waits: &[Party], side: Side, c: u32) -> Option<&Party>
-    ensures { option_copied result ≡ find (party_test side c) waits.now }
-{
-    waits.iter().find(|w| side.is_in(c, w))
 }
 
 /// Where it stands among all that wait, counted from 0: behind them where there is none.

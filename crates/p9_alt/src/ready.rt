@@ -1,15 +1,14 @@
-ghost use Rattle.std.specs.Prelude.{◌≡◌, ◌==◌, ◌<◌, ◌≤◌, All, true, length, slice_index, slice_get, IfSome};
-ghost use Rattle.std.specs.List.{find};
+ghost use Rattle.std.specs.Prelude.{◌≡◌, ◌==◌, ◌<◌, ◌≤◌, All, List, true, length, slice_index, slice_get, IfSome};
 ghost use Rattle.p9_word.specs.declared.alt.AltOp.TheVariants.{Snd, Rcv};
-ghost use Rattle.p9_manual.specs.AltEntries.{sends_on};
+ghost use Rattle.p9_manual.specs.declared.state.Party.{Party};
 ghost use Rattle.p9_manual.specs.ReadyEntries.{can_go_on, is_ready, ready_entries};
 ghost use Rattle.p9_manual.specs.Standing.{times};
 ghost use Rattle.p9_chan.specs.Channels.{IsMade, chan_of};
-ghost use Rattle.p9_alt.specs.Exchange.{others, zeros_of, zeros_for};
+ghost use Rattle.p9_alt.specs.Exchange.{others, zeros_for};
 ghost use Rattle.p9_alt.specs.Passing.{IsUsable};
 
-use crate::entries::{zeros_at, zeros_in};
-use crate::queue::{first, is_awaited_by_other};
+use crate::entries::zeros_in;
+use crate::queue::is_awaited_by_other;
 use crate::side::Side;
 use p9_chan::Chans;
 use p9_manual::Party;
@@ -127,19 +126,11 @@ fn ready_at(chans: &Chans, waits: &[Party], tid: Tid, entries: &[AltEntry], n: u
     unreachable!()
 }
 
-/// How many zeros the thread needs that waits longest to send on channel c.
-fn sender_zeros(waits: &[Party], c: u32, elsize: u32) -> u32
-    ensures { result ≡ zeros_of c elsize (find (sends_on c) waits.now) }
-{
-    match first(waits, Side::Sends, c) {
-        Some(w) => zeros_at(elsize, Side::Sends, c, w.entries.as_slice()),
-        None => 0,
-    }
-}
-
-/// How many zeros an entry may need to go on.
-pub(crate) fn zeros_for(chans: &Chans, waits: &[Party], e: &AltEntry) -> u32
-    ensures { result ≡ zeros_for chans.now.chans waits.now e.now }
+/// The most zeros that an entry may need to go on. Of a receive those who wait aren't looked at: a sender that gives no
+/// value needs as many as an element has.
+#[tactic(auto, using(crate::proofs::Bounds::sender_most))]
+pub(crate) fn zeros_for(chans: &Chans, e: &AltEntry) -> u32
+    ensures { (waits : List Party) → zeros_for chans.now.chans waits e.now ≤ result }
 {
     if !chans.is_live(e.chan) {
         return 0;
@@ -147,18 +138,18 @@ pub(crate) fn zeros_for(chans: &Chans, waits: &[Party], e: &AltEntry) -> u32
     let elsize = chans.elsize(e.chan);
     match e.op {
         AltOp::Snd => zeros_in(elsize, &e.slot),
-        AltOp::Rcv => sender_zeros(waits, e.chan, elsize),
+        AltOp::Rcv => elsize,
         AltOp::Nop => 0,
     }
 }
 
 /// The most that one of these entries may need.
-pub(crate) fn most_zeros(chans: &Chans, waits: &[Party], entries: &[AltEntry]) -> u32
-    ensures { All (λ e. zeros_for chans.now.chans waits.now e ≤ result) entries.now }
+pub(crate) fn most_zeros(chans: &Chans, entries: &[AltEntry]) -> u32
+    ensures { (waits : List Party) → All (λ e. zeros_for chans.now.chans waits e ≤ result) entries.now }
 {
     let mut most = 0;
     for e in entries {
-        let zeros = zeros_for(chans, waits, e);
+        let zeros = zeros_for(chans, e);
         if most < zeros {
             most = zeros;
         }

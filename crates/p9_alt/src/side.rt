@@ -33,7 +33,7 @@ impl Side {
     pub fn passes(self, c: u32, e: &AltEntry) -> bool
         ensures { result ≡ entry_test self c e.now }
     {
-        !e.err && (self.has_op(&e.op) && e.chan == c)
+        e.chan == c && (!e.err && self.has_op(&e.op))
     }
 
     /// The number of the first entry that does, counted from 0, and of no entry where none does.
