@@ -49,10 +49,13 @@ impl Side {
         entries.len()
     }
 
-    /// Whether a thread that waits has such an entry.
+    /// Whether a thread that waits has such an entry. Mostly it has one entry, which is looked at by itself.
     pub fn is_in(self, c: u32, w: &Party) -> bool
         ensures { result ≡ party_test self c w.now }
     {
-        w.entries.as_slice().iter().any(|e| self.passes(c, e))
+        match w.entries.as_slice() {
+            [e] => self.passes(c, e),
+            entries => entries.iter().any(|e| self.passes(c, e)),
+        }
     }
 }
