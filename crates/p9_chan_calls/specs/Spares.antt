@@ -48,9 +48,26 @@ IsAlone (ask.ChanClose c) = ⊥
 IsAlone (ask.ChanClosing c) = ⊥
 IsAlone (ask.Alt ending entries) = ⊥
 
+-- the request is an alt of a list
+abbrev pub IsAlt : ChanReq → Type 0
+IsAlt (ask.Alt ending entries) = Unit {0}
+IsAlt (ask.Send c value) = ⊥
+IsAlt (ask.NbSend c value) = ⊥
+IsAlt (ask.Recv keep c) = ⊥
+IsAlt (ask.NbRecv keep c) = ⊥
+IsAlt (ask.SendUl c n) = ⊥
+IsAlt (ask.NbSendUl c n) = ⊥
+IsAlt (ask.RecvUl c) = ⊥
+IsAlt (ask.NbRecvUl c) = ⊥
+IsAlt (ask.ChanPrint c text) = ⊥
+IsAlt (ask.ChanCreate cap elsize) = ⊥
+IsAlt (ask.ChanFree c) = ⊥
+IsAlt (ask.ChanClose c) = ⊥
+IsAlt (ask.ChanClosing c) = ⊥
+
 -- the spare has room for so many threads that are woken
 abbrev pub IsRoomFor : ℕ → Spare → Type 0
-IsRoomFor n (Wakes room) = (room.items ≡ []) × (n ≤ room.spare)
+IsRoomFor n (Wakes room) = (room.value.items ≡ []) × (n ≤ room.value.spare)
 IsRoomFor n (Number bytes) = ⊥
 IsRoomFor n Nothing = ⊥
 

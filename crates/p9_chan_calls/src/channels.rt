@@ -65,19 +65,19 @@ pub(crate) fn closing(alts: &Alts, c: u32) -> Reply
 }
 
 /// Closes a channel. Each thread that waits on it becomes ready. There is room for them.
-pub(crate) fn close(sched: &mut Sched, alts: &mut Alts, c: u32, spare: Spare) -> Reply
+pub(crate) fn close(sched: &mut Sched, alts: &mut Alts, c: u32, spare: &mut Spare) -> Reply
     requires stands { (at : ℕ) × (generator : Lcg) × Stands at sched.old alts.old generator }
-    requires room { IsRoomFor (count_by (waits_on c) alts.old.waits) spare }
+    requires room { IsRoomFor (count_by (waits_on c) alts.old.waits) spare.old }
     ensures serves { ServesClose c sched.old alts.old result sched.new alts.new }
     ensures bare { IsBare result }
 {
     if !alts.chans().is_live(c) {
         return Reply::Now(Answer::Bad);
     }
-    let Spare::Wakes(mut wakes) = spare else {
+    let Spare::Wakes(wakes) = spare else {
         unreachable!()
     };
-    if !alts.close(c, &mut wakes) {
+    if !alts.close(c, wakes) {
         return Reply::Now(Answer::Number(0));
     }
     wake_all(sched, wakes.as_slice());

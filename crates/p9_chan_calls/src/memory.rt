@@ -18,7 +18,7 @@ pub enum Spare {
     /// The bytes of the number that is sent.
     Number(Msg),
     /// Room for the threads that wait on the channel that is closed.
-    Wakes(Room<Wake>),
+    Wakes(Box<Room<Wake>>),
 }
 
 /// A slot that needs as many zeros as that of this value.
@@ -80,7 +80,7 @@ fn for_close(alts: &Alts, c: u32, alloc: Global) -> Result<Spare, NoMemory>
 {
     let mut wakes = Room::new(alloc);
     wakes.reserve(alts.awaiting(c))?;
-    Ok(Spare::Wakes(wakes))
+    Ok(Spare::Wakes(Box::new(alloc, wakes)?))
 }
 
 /// Takes the memory of a request on channels. A refusal changes nothing.

@@ -1,5 +1,5 @@
 -- The event that there is memory for, and that memory.
-use Rattle.std.specs.Prelude.{ℕ, ◌≡◌, ◌-◌, List, [], slice_get}
+use Rattle.std.specs.Prelude.{ℕ, ◌≡◌, ◌-◌, List, [], Option, Some, None, slice_get}
 use Rattle.p9_word.specs.declared.trail.Seat.{Seat}
 use Rattle.p9_word.specs.declared.trail.Seat.TheVariants.{Proc, Io as IoSeat}
 use Rattle.p9_word.specs.declared.trail.Event.{Event}
@@ -88,3 +88,8 @@ pub record IsFor (board : Board) (seat : Seat) (event : Event) (r : Reserved) : 
   pub seat_is : seat_of r.needs ≡ seat
   pub event_is : event_of r.needs ≡ event
   pub ready : IsReserved board r
+
+-- such memory is kept
+abbrev pub IsKeptFor : Board → Seat → Event → Option Reserved → Type 0
+IsKeptFor board seat event None = ⊥
+IsKeptFor board seat event (Some r) = IsFor board seat event r

@@ -1,18 +1,19 @@
-ghost use Rattle.std.specs.Prelude.{◌≡◌, ◌+◌, ◌≤◌, length, true, false};
+ghost use Rattle.std.specs.Prelude.{◌≡◌, ◌+◌, ◌≤◌, length, true, false, None};
 ghost use Rattle.p9_word.specs.declared.trail.Event.TheVariants.{IoDid};
 ghost use Rattle.p9_word.specs.declared.trail.Seat.TheVariants.{Io as IoSeat};
 ghost use Rattle.p9_manual.specs.History.{with_entry};
 ghost use Rattle.p9_manual.specs.Step.{makes_entry};
 ghost use Rattle.p9_sched.specs.Messages.{IsOfReply};
 ghost use Rattle.p9_machine.specs.Board.{IsBoard, DoesAll, Follows, calls_of};
-ghost use Rattle.p9_machine.specs.Reserved.{IsFor};
+ghost use Rattle.p9_machine.specs.Reserved.{IsKeptFor};
 ghost use Rattle.p9_machine.specs.Shown.{is_told};
 
 use crate::board::Board;
 use crate::copies::{copy_reply, makes_entry};
-use crate::reserve::Reserved;
+use crate::reserve::{Reserved, clear};
 use crate::step::{did_call, outcome};
 use p9_word::{Effect, Entry, Event, Msg, Reply, Room, Seat};
+use std::mem;
 
 /// Makes the entry of an event with this reply, if one is made. `told` is a copy of the reply's message.
 #[inline(always)]
@@ -28,17 +29,18 @@ fn put_entry(entries: &mut Room<Entry>, seat: Seat, event: Event, reply: &Reply,
     }
 }
 
-/// One event that there is memory for: its reply, and its entry if one is made.
+/// One event that there is memory for: its reply, and its entry if one is made. The memory stays where it is, and what is
+/// needed is taken out of it.
 #[inline(always)]
 pub(crate) fn enter(
     board: &mut Board,
     entries: &mut Room<Entry>,
     seat: Seat,
     event: Event,
-    reserved: Reserved,
+    kept: &mut Option<Reserved>,
 ) -> Reply
     requires board { IsBoard board.old }
-    requires memory { IsFor board.old seat event reserved }
+    requires memory { IsKeptFor board.old seat event kept.old }
     requires quiet { is_told event ≡ false }
     requires room { calls_of board.old + 2 ≤ entries.old.spare }
     requires counted { board.old.position ≡ length entries.old.items }
@@ -46,11 +48,16 @@ pub(crate) fn enter(
     ensures entries { entries.new.items ≡ with_entry entries.old.items seat event result }
     ensures follows { Follows board.old seat result board.new }
     ensures spare { calls_of board.new ≤ entries.new.spare }
+    ensures none { kept.new ≡ None }
 {
-    let Reserved { needs, told } = reserved;
+    let Some(Reserved { needs, told }) = kept else {
+        unreachable!();
+    };
     let reply = outcome(board, needs);
+    let told = mem::replace(told, Msg::new());
     put_entry(entries, seat, event, &reply, told);
     board.position = entries.as_slice().len() as u64;
+    clear(kept);
     reply
 }
 

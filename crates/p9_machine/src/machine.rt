@@ -1,5 +1,4 @@
 ghost use Rattle.std.specs.Prelude.{◌≡◌, ◌-◌, ◌≤◌, ◌<◌, ◌^◌, [], true, false, Some, None, slice_get, length, replicate, IfOk, OnOk, OnErr, IfSome, IsSome};
-ghost use Rattle.p9_word.specs.declared.trail.Event.TheVariants.{IoDid};
 ghost use Rattle.p9_word.specs.Setup.{IsValid};
 ghost use Rattle.p9_manual.specs.State.{changed};
 ghost use Rattle.p9_manual.specs.Effects.{room_for, message_length};
@@ -8,7 +7,7 @@ ghost use Rattle.p9_machine.specs.Plain.{IsPlain};
 use crate::begin::begin_board;
 use crate::board::Board;
 use crate::entries::{enter, record};
-use crate::reserve::{Reserved, keep, let_go, reserved_for};
+use crate::reserve::{Reserved, let_go, reserve_for};
 use p9_laws::soundness::states_are_sound;
 use p9_word::{Effect, Event, NoMemory, Reply, Room, Seat, Setup, Trail};
 use std::alloc::Global;
@@ -88,9 +87,7 @@ impl Machine {
         let_go(&mut self.reserved);
         let begun = self.board.io.begun_calls();
         self.trail.entries.reserve(begun + 2)?;
-        let reserved = reserved_for(&mut self.board, seat, event, self.alloc)?;
-        keep(&mut self.reserved, reserved);
-        Ok(())
+        reserve_for(&mut self.board, seat, event, self.alloc, &mut self.reserved)
     }
 
     /// One event. There is memory for it, by the reserve before, or for what an ioproc tells since its
@@ -101,9 +98,10 @@ impl Machine {
         ensures reply { result ≡ reply_to self.old seat event }
         ensures machine { self.new ≡ after_event self.old seat event result }
     {
-        match event {
-            Event::IoDid(effect) => self.did(seat, effect),
-            event => self.enter(seat, event),
+        if matches!(&event, Event::IoDid(_)) {
+            self.did(seat, event)
+        } else {
+            self.enter(seat, event)
         }
     }
 
@@ -114,23 +112,25 @@ impl Machine {
         ensures reply { result ≡ reply_to self.old seat event }
         ensures machine { self.new ≡ after_event self.old seat event result }
     {
-        let Some(reserved) = self.reserved.take() else {
-            unreachable!();
-        };
         states_are_sound(&self.board.setup, self.trail.entries.as_slice());
         enter(
             &mut self.board,
             &mut self.trail.entries,
             seat,
             event,
-            reserved,
+            &mut self.reserved,
         )
     }
 
-    fn did(&mut self, seat: Seat, effect: Effect) -> Reply
-        ensures reply { result ≡ reply_to self.old seat (IoDid effect) }
-        ensures machine { self.new ≡ after_event self.old seat (IoDid effect) result }
+    #[inline(never)]
+    fn did(&mut self, seat: Seat, event: Event) -> Reply
+        requires { is_told event ≡ true }
+        ensures reply { result ≡ reply_to self.old seat event }
+        ensures machine { self.new ≡ after_event self.old seat event result }
     {
+        let Event::IoDid(effect) = event else {
+            unreachable!();
+        };
         let_go(&mut self.reserved);
         states_are_sound(&self.board.setup, self.trail.entries.as_slice());
         record(&mut self.board, &mut self.trail.entries, seat, effect)

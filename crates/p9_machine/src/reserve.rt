@@ -1,9 +1,9 @@
-ghost use Rattle.std.specs.Prelude.{◌≡◌, Some, None, IfOk};
+ghost use Rattle.std.specs.Prelude.{◌≡◌, Some, None, OnOk, OnErr};
 ghost use Rattle.p9_word.specs.declared.trail.Event.TheVariants.{Call};
 ghost use Rattle.p9_word.specs.declared.trail.Seat.TheVariants.{Proc, Io as IoSeat};
 ghost use Rattle.p9_word.specs.declared.request.Request.TheVariants.{Thread as ThreadRequest, Chan as ChanRequest, Io as IoRequest};
 ghost use Rattle.p9_machine.specs.Board.{TakesMemory};
-ghost use Rattle.p9_machine.specs.Reserved.{IsFor, IsStray};
+ghost use Rattle.p9_machine.specs.Reserved.{IsKeptFor, IsStray};
 
 use crate::board::Board;
 use crate::messages::{message_of_next, message_posted};
@@ -43,13 +43,21 @@ pub(crate) struct Reserved {
     pub(crate) told: Msg,
 }
 
-/// Drops what was reserved.
+/// Nothing is reserved any more.
+#[inline(always)]
+pub(crate) fn clear(kept: &mut Option<Reserved>)
+    ensures { kept.new ≡ None }
+{
+    *kept = None;
+}
+
+/// Drops what was reserved and wasn't used.
 #[cold]
 #[inline(never)]
 fn forget(kept: &mut Option<Reserved>)
     ensures { kept.new ≡ None }
 {
-    *kept = None;
+    clear(kept);
 }
 
 /// Nothing is reserved any more. Mostly nothing was, and then nothing is moved.
@@ -62,148 +70,187 @@ pub(crate) fn let_go(kept: &mut Option<Reserved>)
     }
 }
 
-/// Keeps what is reserved. Nothing was kept, and the take says so to the compiler: no old memory is read to be dropped.
+/// Keeps what is reserved. That nothing was kept is said to the compiler, so that no old memory is read to be dropped.
 #[inline(always)]
-pub(crate) fn keep(kept: &mut Option<Reserved>, reserved: Reserved)
+fn keep(kept: &mut Option<Reserved>, reserved: Reserved)
     requires { kept.old ≡ None }
     ensures { kept.new ≡ Some reserved }
 {
-    let None = kept.take() else {
+    if kept.is_some() {
         unreachable!();
-    };
+    }
     *kept = Some(reserved);
 }
 
 /// For a request on threads.
+#[inline(always)]
 fn for_threads(
     board: &mut Board,
     p: u32,
     t: Tid,
     request: &ThreadReq,
     alloc: Global,
-) -> Result<Reserved, NoMemory>
+    kept: &mut Option<Reserved>,
+) -> Result<(), NoMemory>
+    requires { kept.old ≡ None }
     ensures takes { TakesMemory board.old board.new }
-    ensures memory { IfOk result (IsFor board.new (Proc p) (Call t (ThreadRequest request.now))) }
+    ensures memory { OnOk result (IsKeptFor board.new (Proc p) (Call t (ThreadRequest request.now)) kept.new) }
+    ensures none { OnErr result (kept.new ≡ None) }
 {
     let copy = request.copied(alloc)?;
     let spare = p9_thread_calls::reserve(&mut board.sched, t, request, alloc)?;
     let told = spare.message()?;
-    Ok(Reserved {
-        needs: Needs::Call(p, t, Asked::Thread(copy, spare)),
-        told,
-    })
+    let needs = Needs::Call(p, t, Asked::Thread(copy, spare));
+    keep(kept, Reserved { needs, told });
+    Ok(())
 }
 
 /// For a request on channels.
+#[inline(always)]
 fn for_chans(
     board: &mut Board,
     p: u32,
     t: Tid,
     request: &ChanReq,
     alloc: Global,
-) -> Result<Reserved, NoMemory>
+    kept: &mut Option<Reserved>,
+) -> Result<(), NoMemory>
+    requires { kept.old ≡ None }
     ensures takes { TakesMemory board.old board.new }
-    ensures memory { IfOk result (IsFor board.new (Proc p) (Call t (ChanRequest request.now))) }
+    ensures memory { OnOk result (IsKeptFor board.new (Proc p) (Call t (ChanRequest request.now)) kept.new) }
+    ensures none { OnErr result (kept.new ≡ None) }
 {
-    let copy = request.copied(alloc)?;
     let spare = p9_chan_calls::reserve(&mut board.alts, request, alloc)?;
-    Ok(Reserved {
-        needs: Needs::Call(p, t, Asked::Chan(copy, spare)),
-        told: Msg::new(),
-    })
+    let copy = request.copied(alloc)?;
+    let needs = Needs::Call(p, t, Asked::Chan(copy, spare));
+    let told = Msg::new();
+    keep(kept, Reserved { needs, told });
+    Ok(())
 }
 
 /// For a request on ioprocs.
+#[inline(always)]
 fn for_ioprocs(
     board: &Board,
     p: u32,
     t: Tid,
     request: &IoReq,
     alloc: Global,
-) -> Result<Reserved, NoMemory>
-    ensures { IfOk result (IsFor board.now (Proc p) (Call t (IoRequest request.now))) }
+    kept: &mut Option<Reserved>,
+) -> Result<(), NoMemory>
+    requires { kept.old ≡ None }
+    ensures memory { OnOk result (IsKeptFor board.now (Proc p) (Call t (IoRequest request.now)) kept.new) }
+    ensures none { OnErr result (kept.new ≡ None) }
 {
+    let _ = board;
     let copy = request.copied(alloc)?;
-    Ok(Reserved {
-        needs: Needs::Call(p, t, Asked::Io(copy)),
-        told: Msg::new(),
-    })
+    let needs = Needs::Call(p, t, Asked::Io(copy));
+    let told = Msg::new();
+    keep(kept, Reserved { needs, told });
+    Ok(())
 }
 
 /// For a request of thread t, told by proc p.
+#[inline(always)]
 fn for_request(
     board: &mut Board,
     p: u32,
     t: Tid,
     request: &Request,
     alloc: Global,
-) -> Result<Reserved, NoMemory>
+    kept: &mut Option<Reserved>,
+) -> Result<(), NoMemory>
+    requires { kept.old ≡ None }
     ensures takes { TakesMemory board.old board.new }
-    ensures memory { IfOk result (IsFor board.new (Proc p) (Call t request.now)) }
+    ensures memory { OnOk result (IsKeptFor board.new (Proc p) (Call t request.now) kept.new) }
+    ensures none { OnErr result (kept.new ≡ None) }
 {
     match request {
-        Request::Thread(request) => for_threads(board, p, t, request, alloc),
-        Request::Chan(request) => for_chans(board, p, t, request, alloc),
-        Request::Io(request) => for_ioprocs(board, p, t, request, alloc),
+        Request::Thread(request) => for_threads(board, p, t, request, alloc, kept),
+        Request::Chan(request) => for_chans(board, p, t, request, alloc, kept),
+        Request::Io(request) => for_ioprocs(board, p, t, request, alloc, kept),
     }
 }
 
 /// For a proc that asks which thread is to run.
-fn for_turn(board: &Board, p: u32) -> Result<Reserved, NoMemory>
-    ensures { IfOk result (IsFor board.now (Proc p) Event.Next) }
+#[inline(always)]
+fn for_turn(board: &Board, p: u32, kept: &mut Option<Reserved>) -> Result<(), NoMemory>
+    requires { kept.old ≡ None }
+    ensures memory { OnOk result (IsKeptFor board.now (Proc p) Event.Next kept.new) }
+    ensures none { OnErr result (kept.new ≡ None) }
 {
     let told = message_of_next(&board.sched, p)?;
-    Ok(Reserved {
-        needs: Needs::Next(p),
-        told,
-    })
+    let needs = Needs::Next(p);
+    keep(kept, Reserved { needs, told });
+    Ok(())
 }
 
 /// For an ioproc that asks for its call; and for what it tells later.
-fn for_take(board: &mut Board, k: u32, alloc: Global) -> Result<Reserved, NoMemory>
+#[inline(always)]
+fn for_take(
+    board: &mut Board,
+    k: u32,
+    alloc: Global,
+    kept: &mut Option<Reserved>,
+) -> Result<(), NoMemory>
+    requires { kept.old ≡ None }
     ensures takes { TakesMemory board.old board.new }
-    ensures memory { IfOk result (IsFor board.new (IoSeat k) Event.IoTake) }
+    ensures memory { OnOk result (IsKeptFor board.new (IoSeat k) Event.IoTake kept.new) }
+    ensures none { OnErr result (kept.new ≡ None) }
 {
     let told = message_posted(&board.io, k)?;
     let spare = p9_io_calls::reserve(&mut board.io, k, alloc)?;
-    Ok(Reserved {
-        needs: Needs::Take(k, spare),
-        told,
-    })
+    let needs = Needs::Take(k, spare);
+    keep(kept, Reserved { needs, told });
+    Ok(())
 }
 
 /// For an event that comes from where none of its kind can, or tells what a call came to.
-fn for_other(board: &Board, seat: Seat, event: &Event, alloc: Global) -> Result<Reserved, NoMemory>
-    requires { IsStray seat event.now }
-    ensures { IfOk result (IsFor board.now seat event.now) }
+#[cold]
+#[inline(never)]
+fn for_other(
+    board: &Board,
+    seat: Seat,
+    event: &Event,
+    alloc: Global,
+    kept: &mut Option<Reserved>,
+) -> Result<(), NoMemory>
+    requires stray { IsStray seat event.now }
+    requires none { kept.old ≡ None }
+    ensures memory { OnOk result (IsKeptFor board.now seat event.now kept.new) }
+    ensures none { OnErr result (kept.new ≡ None) }
 {
     let _ = board;
     let event = event.copied(alloc)?;
-    Ok(Reserved {
-        needs: Needs::Other(seat, event),
-        told: Msg::new(),
-    })
+    let needs = Needs::Other(seat, event);
+    let told = Msg::new();
+    keep(kept, Reserved { needs, told });
+    Ok(())
 }
 
-/// Takes the memory that an event needs, in the parts, and the copies. A refusal changes nothing.
+/// Takes the memory that an event needs, in the parts, and the copies, which are put in their place one kind of event by one.
+/// A refusal changes nothing.
 #[inline(always)]
-pub(crate) fn reserved_for(
+pub(crate) fn reserve_for(
     board: &mut Board,
     seat: Seat,
     event: &Event,
     alloc: Global,
-) -> Result<Reserved, NoMemory>
+    kept: &mut Option<Reserved>,
+) -> Result<(), NoMemory>
+    requires { kept.old ≡ None }
     ensures takes { TakesMemory board.old board.new }
-    ensures memory { IfOk result (IsFor board.new seat event.now) }
+    ensures memory { OnOk result (IsKeptFor board.new seat event.now kept.new) }
+    ensures none { OnErr result (kept.new ≡ None) }
 {
     match (seat, event) {
-        (Seat::Proc(p), Event::Call(t, request)) => for_request(board, p, *t, request, alloc),
-        (Seat::Proc(p), Event::Next) => for_turn(board, p),
-        (Seat::Io(k), Event::IoTake) => for_take(board, k, alloc),
+        (Seat::Proc(p), Event::Call(t, request)) => for_request(board, p, *t, request, alloc, kept),
+        (Seat::Proc(p), Event::Next) => for_turn(board, p, kept),
+        (Seat::Io(k), Event::IoTake) => for_take(board, k, alloc, kept),
         (Seat::Proc(_), Event::IoTake)
         | (Seat::Proc(_), Event::IoDid(_))
         | (Seat::Io(_), Event::Call(..))
         | (Seat::Io(_), Event::Next)
-        | (Seat::Io(_), Event::IoDid(_)) => for_other(board, seat, event, alloc),
+        | (Seat::Io(_), Event::IoDid(_)) => for_other(board, seat, event, alloc, kept),
     }
 }

@@ -19,7 +19,8 @@ use crate::ends::{exit_all, exit_thread};
 use crate::next::next_event;
 use crate::reserve::{Asked, Needs};
 use p9_sched::{Place, Sched};
-use p9_word::{ChanReq, Effect, Event, IoReq, Reply, ThreadReq, Tid};
+use p9_word::{ChanReq, Effect, IoReq, Reply, ThreadReq, Tid};
+use std::mem;
 
 /// Whether thread t runs in proc p.
 fn runs_there(sched: &Sched, t: Tid, p: u32) -> bool
@@ -48,12 +49,17 @@ fn thread_call(
     }
 }
 
-/// A request of a thread on channels.
-fn chan_call(board: &mut Board, t: Tid, request: ChanReq, spare: p9_chan_calls::Spare) -> Reply
+/// A request of a thread on channels. Its messages are taken out of it.
+fn chan_call(
+    board: &mut Board,
+    t: Tid,
+    request: &mut ChanReq,
+    spare: &mut p9_chan_calls::Spare,
+) -> Reply
     requires board { IsBoard board.old }
     requires runs { IsRunning t board.old.sched }
-    requires memory { IsChanSpare request spare board.old.alts }
-    ensures gives { GivesAll (chan_call board.old.setup t request) board.old result board.new }
+    requires memory { IsChanSpare request.old spare.old board.old.alts }
+    ensures gives { GivesAll (chan_call board.old.setup t request.old) board.old result board.new }
     ensures stays { Stays board.old board.new }
     ensures bare { IsBare result }
 {
@@ -99,40 +105,39 @@ pub(crate) fn did_call(board: &mut Board, k: u32, effect: &Effect) -> Reply
     p9_io_calls::did(&mut board.sched, &mut board.io, k, effect)
 }
 
-/// The reply to an event that comes from where none of its kind can.
-fn refuse(event: Event) -> Reply
-    ensures { result ≡ Reply.Stray }
-{
-    let _ = event;
-    Reply::Stray
-}
-
-/// A request of a thread that runs, by its group.
+/// A request of a thread that runs, by its group. What it hands over is taken out of it.
 #[tactic(auto, unfolding(p9_manual::specs::Step::served))]
-fn served(board: &mut Board, t: Tid, asked: Asked) -> Reply
+fn served(board: &mut Board, t: Tid, asked: &mut Asked) -> Reply
     requires board { IsBoard board.old }
     requires runs { IsRunning t board.old.sched }
-    requires memory { HasRequestMemory board.old t asked }
-    ensures gives { GivesAll (served board.old.setup t (request_of asked)) board.old result board.new }
+    requires memory { HasRequestMemory board.old t asked.old }
+    ensures gives { GivesAll (served board.old.setup t (request_of asked.old)) board.old result board.new }
     ensures stays { Stays board.old board.new }
-    ensures told { IsOfReply result (message_for asked) }
+    ensures told { IsOfReply result (message_for asked.old) }
 {
     match asked {
-        Asked::Thread(request, spare) => thread_call(board, t, request, spare),
+        Asked::Thread(request, spare) => {
+            let request = mem::replace(request, ThreadReq::Yield);
+            let spare = mem::replace(spare, p9_thread_calls::Spare::Nothing);
+            thread_call(board, t, request, spare)
+        }
         Asked::Chan(request, spare) => chan_call(board, t, request, spare),
-        Asked::Io(request) => io_call(board, t, request),
+        Asked::Io(request) => {
+            let request = mem::replace(request, IoReq::IoProc { k: 0 });
+            io_call(board, t, request)
+        }
     }
 }
 
 /// A request that is told by proc p: it is served where its thread runs there.
 #[tactic(auto, unfolding(p9_manual::specs::Step::called))]
 #[inline(always)]
-fn called(board: &mut Board, p: u32, t: Tid, asked: Asked) -> Reply
+fn called(board: &mut Board, p: u32, t: Tid, asked: &mut Asked) -> Reply
     requires board { IsBoard board.old }
-    requires memory { HasRequestMemory board.old t asked }
-    ensures gives { GivesAll (called board.old.setup p t (request_of asked)) board.old result board.new }
+    requires memory { HasRequestMemory board.old t asked.old }
+    ensures gives { GivesAll (called board.old.setup p t (request_of asked.old)) board.old result board.new }
     ensures stays { Stays board.old board.new }
-    ensures told { IsOfReply result (message_for asked) }
+    ensures told { IsOfReply result (message_for asked.old) }
 {
     if runs_there(&board.sched, t, p) {
         served(board, t, asked)
@@ -141,20 +146,24 @@ fn called(board: &mut Board, p: u32, t: Tid, asked: Asked) -> Reply
     }
 }
 
-/// One event that there is memory for, but for the position of the next entry.
+/// One event that there is memory for, but for the position of the next entry. What it hands over is taken out of what it needs.
 #[inline(always)]
-pub(crate) fn outcome(board: &mut Board, needs: Needs) -> Reply
+pub(crate) fn outcome(board: &mut Board, needs: &mut Needs) -> Reply
     requires board { IsBoard board.old }
-    requires memory { IsReservedFor board.old needs }
-    requires quiet { is_told (event_of needs) ≡ false }
-    ensures gives { GivesAll (outcome board.old.setup (seat_of needs) (event_of needs)) board.old result board.new }
-    ensures follows { Follows board.old (seat_of needs) result board.new }
-    ensures told { (m : List ℕ) → IsTold needs board.old.sched board.old.io.ioprocs m → IsOfReply result m }
+    requires memory { IsReservedFor board.old needs.old }
+    requires quiet { is_told (event_of needs.old) ≡ false }
+    ensures gives { GivesAll (outcome board.old.setup (seat_of needs.old) (event_of needs.old)) board.old result board.new }
+    ensures follows { Follows board.old (seat_of needs.old) result board.new }
+    ensures told { (m : List ℕ) → IsTold needs.old board.old.sched board.old.io.ioprocs m → IsOfReply result m }
 {
     match needs {
-        Needs::Call(p, t, asked) => called(board, p, t, asked),
-        Needs::Next(p) => next_event(board, p),
-        Needs::Take(k, spare) => take_call(board, k, spare),
-        Needs::Other(_, event) => refuse(event),
+        Needs::Call(p, t, asked) => called(board, *p, *t, asked),
+        Needs::Next(p) => next_event(board, *p),
+        Needs::Take(k, spare) => {
+            let spare = mem::replace(spare, p9_io_calls::Spare::Nothing);
+            take_call(board, *k, spare)
+        }
+        // It comes from where none of its kind can.
+        Needs::Other(..) => Reply::Stray,
     }
 }

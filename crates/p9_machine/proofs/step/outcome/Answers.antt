@@ -25,7 +25,7 @@ pub returns-in-Other-clause-gives : goal.returns-in-Other-clause-gives
 returns-in-Other-clause-gives c = λ s st sound.
     let memory = rw c.in-Other.is at c.requires.memory in
     let quiet = rw c.in-Other.is at c.requires.quiet in
-    rw (c.in-Other.is, c.refuse.ensures) (gives_by _ s _ _ Stray (strays c.args.board.now.setup _ _ s memory quiet) (unmoved c.args.board.now s Stray refl st))
+    rw c.in-Other.is (gives_by _ s _ _ Stray (strays c.args.board.now.setup _ _ s memory quiet) (unmoved c.args.board.now s Stray refl st))
 
 pub returns-in-Call-clause-told : goal.returns-in-Call-clause-told
 returns-in-Call-clause-told c = λ m h.

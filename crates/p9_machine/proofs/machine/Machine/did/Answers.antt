@@ -10,4 +10,4 @@ pub invariant_of-self : goal.invariant_of-self
 invariant_of-self c =
     let m = c.self.inside in
     let sound = subst (λ (es : List Entry). IsSound m.board.setup (state_after m.board.setup es)) c.as_slice.ensures c.states_are_sound.ensures in
-    kept_on m c.record.new.board c.record.new.entries c.let_go.new.kept c.args.seat (IoDid c.args.effect) c.record.result c.let_go.ensures c.self.invariant c.record.ensures.follows.setup (c.record.ensures.does (now_of m) c.self.invariant.board sound) c.record.ensures.entries c.record.ensures.spare
+    kept_on m c.record.new.board c.record.new.entries c.let_go.new.kept c.args.seat (IoDid c.in-IoDid.effect) c.record.result c.let_go.ensures c.self.invariant c.record.ensures.follows.setup (c.record.ensures.does (now_of m) c.self.invariant.board sound) c.record.ensures.entries c.record.ensures.spare

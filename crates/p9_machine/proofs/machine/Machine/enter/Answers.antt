@@ -9,4 +9,4 @@ pub invariant_of-self : goal.invariant_of-self
 invariant_of-self c =
     let m = c.self.inside in
     let sound = subst (λ (es : List Entry). IsSound m.board.setup (state_after m.board.setup es)) c.as_slice.ensures c.states_are_sound.ensures in
-    kept_on m c.enter.new.board c.enter.new.entries _ c.args.seat c.args.event c.enter.result c.take.ensures.after c.self.invariant c.enter.ensures.follows.setup (c.enter.ensures.does (now_of m) c.self.invariant.board sound) c.enter.ensures.entries c.enter.ensures.spare
+    kept_on m c.enter.new.board c.enter.new.entries c.enter.new.kept c.args.seat c.args.event c.enter.result c.enter.ensures.none c.self.invariant c.enter.ensures.follows.setup (c.enter.ensures.does (now_of m) c.self.invariant.board sound) c.enter.ensures.entries c.enter.ensures.spare
