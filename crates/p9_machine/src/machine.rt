@@ -13,6 +13,9 @@ use p9_word::{Effect, Event, NoMemory, Reply, Room, Seat, Setup, Trail};
 use std::alloc::Global;
 use std::marker::Model;
 
+/// For how many entries memory is taken at once, beside those of the begun calls.
+const AHEAD: usize = 64;
+
 /// The manual's machine: it does one event at a time, and keeps the trail.
 ///
 /// Contracts see its setup, its entries, the event that there is memory for, and which buffers are here.
@@ -77,8 +80,8 @@ impl Machine {
         self.board.setup.files
     }
 
-    /// Takes all memory that an event needs, and nothing else. For an `IoTake` that is also the memory of
-    /// what the ioproc tells later.
+    /// Takes all memory that an event needs, that of some later entries with it, and nothing else. For an `IoTake` that is also
+    /// the memory of what the ioproc tells later.
     #[inline(always)]
     pub fn reserve(&mut self, seat: Seat, event: &Event) -> Result<(), NoMemory>
         ensures ok { OnOk result (self.new ≡ record self.old { reserved = Some (seat, event.now) }) }
@@ -86,7 +89,9 @@ impl Machine {
     {
         let_go(&mut self.reserved);
         let begun = self.board.io.begun_calls();
-        self.trail.entries.reserve(begun + 2)?;
+        if self.trail.entries.spare() < begun + 2 {
+            self.trail.entries.reserve(begun + AHEAD)?;
+        }
         reserve_for(&mut self.board, seat, event, self.alloc, &mut self.reserved)
     }
 

@@ -82,8 +82,8 @@ fn keep(kept: &mut Option<Reserved>, reserved: Reserved)
     *kept = Some(reserved);
 }
 
-/// For a request on threads.
-#[inline(always)]
+/// For a request on threads. It stands by itself, so that the rest is small enough to be inlined.
+#[inline(never)]
 fn for_threads(
     board: &mut Board,
     p: u32,
