@@ -3,8 +3,8 @@ use Rattle.std.proofs.Common.{◌≡◌, ◌≢◌, ℕ, zero, suc, ◌+◌, ◌
 use Rattle.std.specs.Prelude.{◌==◌, if◌then◌else◌}
 use Rattle.std.specs.List.{filter}
 use Rattle.p9_word.specs.declared.request.Request.{Request}
-use Rattle.p9_word.specs.declared.request.Request.TheVariants.{Chan as ChanRequest, Thread as ThreadRequest, Io as IoRequest}
-use Rattle.p9_word.specs.declared.request.IoReq.TheVariants.{IoProc, IoRun, CloseIoProc}
+use Rattle.p9_word.specs.declared.request.Request.TheVariants.{Chan as ChanRequest, Io as IoRequest}
+use Rattle.p9_word.specs.declared.request.IoReq.TheVariants.{IoRun}
 use Rattle.p9_word.specs.declared.io_call.IoCall.{IoCall}
 use Rattle.p9_word.specs.declared.setup.Setup.{Setup}
 use Rattle.p9_manual.specs.declared.state.Place.{Place as Stand}
@@ -66,11 +66,8 @@ run_counts true u own rest t call n e more =
 run_counts false u own rest t call n e more = let m = more e in omega arith
 
 call_counts : (k u : ℕ) (q : Request) (rest : List (ℕ × IoCall)) (t : ℕ) (call : IoCall) (n : ℕ) → call_in k u q ++ rest ≡ (t, call) ∷ [] → (rest ≡ (t, call) ∷ [] → 1 ≤ n) → 1 ≤ cond {A = ℕ} (u == t) 1 0 + n
-call_counts k u (ThreadRequest r) rest t call n e more = let m = more e in omega arith
-call_counts k u (ChanRequest r) rest t call n e more = let m = more e in omega arith
-call_counts k u (IoRequest (IoProc j)) rest t call n e more = let m = more e in omega arith
-call_counts k u (IoRequest (CloseIoProc j)) rest t call n e more = let m = more e in omega arith
 call_counts k u (IoRequest (IoRun j own)) rest t call n e more = run_counts (j == k) u own rest t call n e more
+call_counts k u q rest t call n e more = let m = more e in omega arith
 
 -- the thread of the only call in which threads wait at an ioproc stands in the waits
 calls_counted : (k t : ℕ) (call : IoCall) → (waits : List Waiter) → waiting_calls k waits ≡ (t, call) ∷ [] → 1 ≤ times (λ w. w.tid == t) waits
@@ -87,9 +84,8 @@ call_goes t w ws e none no_alt = rw (e, none_out (λ x. x.tid == t) ws none, no_
 
 -- the first wait of the only thread that waits in a call at an ioproc is that call
 first_in_call : (k u at : ℕ) (q : Request) (ws : List Waiter) (t : ℕ) (call : IoCall) → call_in k u q ++ waiting_calls k ws ≡ (t, call) ∷ [] → times (λ x. x.tid == t) ws ≡ 0 → alternation_of q ≡ None
-first_in_call k u at (ThreadRequest r) ws t call e none = refl
-first_in_call k u at (IoRequest r) ws t call e none = refl
 first_in_call k u at (ChanRequest r) ws t call e none = let n = calls_counted k t call ws e in absurd (omega arith)
+first_in_call k u at q ws t call e none = refl
 
 -- where another thread's wait comes first, the call is behind it
 other_if : (b : Bool) (u : ℕ) (own : IoCall) (rest : List (ℕ × IoCall)) (t : ℕ) (call : IoCall) → (u ≡ t → ⊥) → (if b then (u, own) ∷ [] else []) ++ rest ≡ (t, call) ∷ [] → rest ≡ (t, call) ∷ []
@@ -97,11 +93,8 @@ other_if true u own rest t call ne e = absurd (ne (ap (λ (z : ℕ × IoCall). z
 other_if false u own rest t call ne e = e
 
 other_first : (k u : ℕ) (q : Request) (rest : List (ℕ × IoCall)) (t : ℕ) (call : IoCall) → (u ≡ t → ⊥) → call_in k u q ++ rest ≡ (t, call) ∷ [] → rest ≡ (t, call) ∷ []
-other_first k u (ThreadRequest r) rest t call ne e = e
-other_first k u (ChanRequest r) rest t call ne e = e
-other_first k u (IoRequest (IoProc j)) rest t call ne e = e
-other_first k u (IoRequest (CloseIoProc j)) rest t call ne e = e
 other_first k u (IoRequest (IoRun j own)) rest t call ne e = other_if (j == k) u own rest t call ne e
+other_first k u q rest t call ne e = e
 
 -- a thread that stands in the waits once, in a call, has no alt there
 in_call_by : (k t : ℕ) (call : IoCall) (w : Waiter) (ws : List Waiter) → waiting_calls k (w ∷ ws) ≡ (t, call) ∷ [] → times (λ x. x.tid == t) (w ∷ ws) ≤ 1 → (waiting_calls k ws ≡ (t, call) ∷ [] → times (λ x. x.tid == t) ws ≤ 1 → parties (waits_without t ws) ≡ parties ws) → CasesEq w.tid t → parties (waits_without t (w ∷ ws)) ≡ parties (w ∷ ws)

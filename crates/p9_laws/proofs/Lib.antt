@@ -2,6 +2,7 @@ pub mod Tallies
 pub mod Standing
 pub mod Asked
 pub mod AskedChans
+pub mod Groups
 pub mod RunMoves
 pub mod RunWoken
 pub mod RunCalls

@@ -9,8 +9,7 @@ use Rattle.p9_word.specs.declared.trail.Event.TheVariants.{Call, Next, IoTake, I
 use Rattle.p9_word.specs.declared.trail.Reply.{Reply}
 use Rattle.p9_word.specs.declared.trail.Reply.TheVariants as reply
 use Rattle.p9_word.specs.declared.request.Request.{Request}
-use Rattle.p9_word.specs.declared.request.Request.TheVariants.{Thread as ThreadRequest, Chan as ChanRequest, Io as IoRequest}
-use Rattle.p9_word.specs.declared.request.ThreadReq.{ThreadReq}
+use Rattle.p9_word.specs.declared.request.Request.TheVariants.{Chan as ChanRequest}
 use Rattle.p9_word.specs.declared.request.ChanReq.{ChanReq}
 use Rattle.p9_word.specs.declared.request.IoReq.{IoReq}
 use Rattle.p9_word.specs.declared.request.IoReq.TheVariants.{IoProc, IoRun, CloseIoProc}
@@ -24,7 +23,6 @@ use Rattle.p9_manual.specs.declared.state.Ioproc.{Ioproc}
 use Rattle.p9_manual.specs.declared.state.Ioproc.TheVariants as stand
 use Rattle.p9_manual.specs.State.{State, Outcome, by_id, pick}
 use Rattle.p9_manual.specs.Places.{runs_there, runs_in, lives, is_of}
-use Rattle.p9_manual.specs.Threads.{thread_call}
 use Rattle.p9_manual.specs.Offers.{Alternation, alternation}
 use Rattle.p9_manual.specs.ReadyEntries.{fits as fits_chans}
 use Rattle.p9_manual.specs.Alt.{Verdict, AllClosed, Commits, NoneReady, MustWait, decided}
@@ -33,10 +31,11 @@ use Rattle.p9_manual.specs.Ioprocs.{io_call, make, post_call, close_ioproc, take
 use Rattle.p9_manual.specs.Effects.{fits, message_length}
 use Rattle.p9_manual.specs.Stuck.{is_stuck}
 use Rattle.p9_manual.specs.Next.{next_event, next_of, turn, turn_reply, started, is_place, is_over}
-use Rattle.p9_manual.specs.Step.{step, outcome, called, served, counted, makes_entry}
+use Rattle.p9_manual.specs.Step.{step, outcome, called, counted, makes_entry}
 use Rattle.p9_laws.specs.Refusals.{is_refusal}
 use Rattle.p9_laws.proofs.AskedChans.{DoesToChans, Tells, MakesChannel, FreesChannel, ClosesChannel, on_channel_does}
-use Rattle.p9_laws.proofs.Asked.{Does, Answers, ChangesCaller, ChangesProcs, MakesThread, MakesProc, GivesWay, Ends, EndsAll, thread_call_does}
+use Rattle.p9_laws.proofs.Asked.{Does, Answers, ChangesCaller, ChangesAside, MakesThread, MakesProc, GivesWay, Ends, EndsAll}
+use Rattle.p9_laws.proofs.Groups.{Kind, Plain, OfChans, OfIoprocs, served_kind}
 
 -- a refusal leaves this state
 abbrev Leaves : State → Outcome → Type 0
@@ -70,15 +69,12 @@ chan_leaves S t r s = alternation_leaves S t r s (alternation r)
 asked_leaves : (S : Setup) (t : ℕ) (s : State) (o : Outcome) → Does S t s o → Leaves s o
 asked_leaves S t s _ (Answers x) = λ e. refl
 asked_leaves S t s _ (ChangesCaller f caller x at leaves grants) = λ e. cc (e, grants)
-asked_leaves S t s _ (ChangesProcs procs x grants) = λ e. cc (e, grants)
+asked_leaves S t s _ (ChangesAside procs holds x grants) = λ e. cc (e, grants)
 asked_leaves S t s _ (MakesThread program arg caller at own) = λ e. cc
 asked_leaves S t s _ (MakesProc program arg caller at own room) = λ e. cc
 asked_leaves S t s _ GivesWay = λ e. cc
 asked_leaves S t s _ Ends = λ e. cc
 asked_leaves S t s _ EndsAll = λ e. cc
-
-thread_leaves : (S : Setup) (t : ℕ) (r : ThreadReq) (s : State) → Leaves s (thread_call S t r s)
-thread_leaves S t r s = asked_leaves S t s _ (thread_call_does S t r s)
 
 make_leaves : (k : ℕ) (s : State) (o : Option Ioproc) → Leaves s (make k s o)
 make_leaves k s None = λ e. refl
@@ -110,15 +106,14 @@ io_leaves S t (IoProc k) s = make_leaves k s _
 io_leaves S t (IoRun k call) s = post_leaves t k call s _
 io_leaves S t (CloseIoProc k) s = close_ioproc_leaves k s _
 
-served_leaves : (S : Setup) (t : ℕ) (r : Request) (s : State) → Leaves s (served S t r s)
-unfolding served
-served_leaves S t (ThreadRequest r) s = thread_leaves S t r s
-served_leaves S t (ChanRequest r) s = chan_leaves S t r s
-served_leaves S t (IoRequest r) s = io_leaves S t r s
+kind_leaves : (S : Setup) (t : ℕ) (s : State) (r : Request) (o : Outcome) → Kind S t s r o → Leaves s o
+kind_leaves S t s _ _ (Plain r o no_alt does) = asked_leaves S t s o does
+kind_leaves S t s _ _ (OfChans r) = chan_leaves S t r s
+kind_leaves S t s _ _ (OfIoprocs r) = io_leaves S t r s
 
 called_leaves : (S : Setup) (p t : ℕ) (r : Request) (s : State) → Leaves s (called S p t r s)
 unfolding called
-called_leaves S p t r s = if_leaves s (runs_there p (by_id s.threads t)) _ _ (served_leaves S t r s) (λ e. refl)
+called_leaves S p t r s = if_leaves s (runs_there p (by_id s.threads t)) _ _ (kind_leaves S t s r _ (served_kind S t r s)) (λ e. refl)
 
 -- only a request is refused
 place_leaves : (t program arg : ℕ) (pl : Place) (s : State) (n : State) → is_refusal (turn_reply t (program, arg, pl)) ≡ true → n ≡ s

@@ -5,7 +5,7 @@ use Rattle.p9_word.specs.Setup.{IsBetween}
 use Rattle.p9_word.specs.declared.answer.Answer.{Answer}
 use Rattle.p9_word.specs.declared.answer.Answer.TheVariants.{Done, Number}
 use Rattle.p9_word.specs.declared.request.Request.{Request}
-use Rattle.p9_word.specs.declared.request.Request.TheVariants.{Thread as ThreadRequest, Chan as ChanRequest, Io as IoRequest}
+use Rattle.p9_word.specs.declared.request.Request.TheVariants.{Thread as ThreadRequest}
 use Rattle.p9_word.specs.declared.request.ThreadReq.{ThreadReq}
 use Rattle.p9_word.specs.declared.io_call.IoCall.{IoCall}
 use Rattle.p9_word.specs.declared.setup.Setup.{Setup}
@@ -13,6 +13,7 @@ use Rattle.p9_word.specs.declared.trail.Reply.TheVariants.{Now, Ended as EndedRe
 use Rattle.p9_manual.specs.declared.state.Place.{Place}
 use Rattle.p9_manual.specs.declared.state.Place.TheVariants.{Running, New, Ready, Waiting, Ended}
 use Rattle.p9_manual.specs.declared.state.Thread.{Thread}
+use Rattle.p9_manual.specs.Holds.{Holds}
 use Rattle.p9_manual.specs.State.{State, Outcome, Proc, by_id, changed, now, done}
 use Rattle.p9_manual.specs.Places.{lives, runs_there}
 use Rattle.p9_manual.specs.Programs.{ends_all}
@@ -23,7 +24,8 @@ use Rattle.p9_manual.specs.Step.{served}
 use Rattle.p9_laws.specs.RunReplies.{IsCallReply}
 use Rattle.p9_laws.specs.IoReplies.{IsBegun}
 use Rattle.p9_laws.proofs.Tallies.{tally, tally-changed, tally-map}
-use Rattle.p9_laws.proofs.Asked.{Does, Answers, ChangesCaller, ChangesProcs, MakesThread, MakesProc, GivesWay, Ends, EndsAll, LeavesStanding, thread_call_does, thread_call_ends_all}
+use Rattle.p9_laws.proofs.Asked.{Does, Answers, ChangesCaller, ChangesAside, MakesThread, MakesProc, GivesWay, Ends, EndsAll, LeavesStanding, thread_call_ends_all}
+use Rattle.p9_laws.proofs.Groups.{Kind, Plain, OfChans, OfIoprocs, served_kind}
 use Rattle.p9_laws.proofs.Standing.{IsUp, place_of, place_in, times_waiting, times_in_line, get_by_id, by_id-changed_same, by_id-changed_other}
 use Rattle.p9_laws.proofs.RunMoves.{IsUpright, IsFading, is_unborn, RunsIn}
 use Rattle.p9_laws.proofs.RunCalls.{IsServed, done_served, now_served, io_call_served}
@@ -183,8 +185,8 @@ opened_called setup t program arg s x at runs upright own room =
       within = λ h. omega (arith, room);
     }
 
-procs_called : (setup : Setup) (t : ℕ) (procs : List Proc) (a : Answer) (s : State) → IsUpright s → IsCalled setup t s (now a (record s { procs = procs }))
-procs_called setup t procs a s upright =
+aside_called : (setup : Setup) (t : ℕ) (procs : List Proc) (holds : Holds) (a : Answer) (s : State) → IsUpright s → IsCalled setup t s (now a (record s { procs = procs; holds = holds }))
+aside_called setup t procs holds a s upright =
     record {
       up = λ u h. h;
       unborn = λ u h. h;
@@ -206,18 +208,20 @@ place_there s t x at runs = sym (ap place_in at) ∙ runs
 asked_called : (setup : Setup) (t : ℕ) (s : State) (o : Outcome) → Does setup t s o → IsUpright s → RunsIn s t → IsCalled setup t s o
 asked_called setup t s _ (Answers a) upright runs = from_served setup t s _ (now_served s t a s.ioprocs upright (λ k call h. h))
 asked_called setup t s _ (ChangesCaller f x a at leaves grants) upright runs = kept_called setup t s x f a at leaves upright
-asked_called setup t s _ (ChangesProcs procs a grants) upright runs = procs_called setup t procs a s upright
+asked_called setup t s _ (ChangesAside procs holds a grants) upright runs = aside_called setup t procs holds a s upright
 asked_called setup t s _ (MakesThread program arg x at own) upright runs = made_called setup t program arg s x at (place_there s t x at runs) upright own
 asked_called setup t s _ (MakesProc program arg x at own room) upright runs = opened_called setup t program arg s x at (place_there s t x at runs) upright own room
 asked_called setup t s _ GivesWay upright runs = from_served setup t s _ (done_served s t Done upright runs)
 asked_called setup t s _ Ends upright runs = from_served setup t s _ (exits_served s t upright runs)
 asked_called setup t s _ EndsAll upright runs = all_called setup t s upright
 
+kind_called : (setup : Setup) (t : ℕ) (s : State) (r : Request) (o : Outcome) → Kind setup t s r o → IsUpright s → RunsIn s t → IsCalled setup t s o
+kind_called setup t s _ _ (Plain r o no_alt does) upright runs = asked_called setup t s o does upright runs
+kind_called setup t s _ _ (OfChans r) upright runs = from_served setup t s _ (chan_call_served setup t r s upright runs)
+kind_called setup t s _ _ (OfIoprocs r) upright runs = from_served setup t s _ (io_call_served setup t r s upright runs)
+
 pub served_called : (setup : Setup) (t : ℕ) (r : Request) (s : State) → IsUpright s → RunsIn s t → IsCalled setup t s (served setup t r s)
-unfolding served
-served_called setup t (ThreadRequest r) s upright runs = asked_called setup t s _ (thread_call_does setup t r s) upright runs
-served_called setup t (ChanRequest r) s upright runs = from_served setup t s _ (chan_call_served setup t r s upright runs)
-served_called setup t (IoRequest r) s upright runs = from_served setup t s _ (io_call_served setup t r s upright runs)
+served_called setup t r s upright runs = kind_called setup t s r _ (served_kind setup t r s) upright runs
 
 ended_all : (setup : Setup) (t : ℕ) (r : ThreadReq) (s : State) (o : Option Thread) → RunsIn s t → by_id s.threads t ≡ o → ends_all (ThreadRequest r) ≡ true → (u : ℕ) → IsUp (place_of (thread_call setup t r s).state.threads u) → ⊥
 ended_all setup t r s None runs at all u h = cc (ap place_in at, runs)
@@ -227,5 +231,4 @@ ended_all setup t r s (Some x) runs at all u h = rw (thread_call_ends_all setup 
 pub served_all : (setup : Setup) (t : ℕ) (r : Request) (s : State) → RunsIn s t → ends_all r ≡ true → (u : ℕ) → IsUp (place_of (served setup t r s).state.threads u) → ⊥
 unfolding served
 served_all setup t (ThreadRequest r) s runs all u h = ended_all setup t r s (by_id s.threads t) runs refl all u h
-served_all setup t (ChanRequest r) s runs all u h = cc
-served_all setup t (IoRequest r) s runs all u h = cc
+served_all setup t r s runs all u h = cc

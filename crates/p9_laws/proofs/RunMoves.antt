@@ -4,7 +4,7 @@ use Rattle.std.proofs.Common.{◌≡◌, ◌≢◌, ℕ, ◌-◌, ◌≤◌, Boo
 use Rattle.std.proofs.lemmas.Bool.{cases_eq, and_parts}
 use Rattle.p9_word.specs.declared.answer.Answer.{Answer}
 use Rattle.p9_word.specs.declared.request.Request.{Request}
-use Rattle.p9_word.specs.declared.request.Request.TheVariants.{Thread as ThreadRequest, Chan as ChanRequest, Io as IoRequest}
+use Rattle.p9_word.specs.declared.request.Request.TheVariants.{Io as IoRequest}
 use Rattle.p9_word.specs.declared.io_call.IoCall.{IoCall}
 use Rattle.p9_manual.specs.declared.state.Place.{Place}
 use Rattle.p9_manual.specs.declared.state.Place.TheVariants.{Running, New, Ready, Waiting, Ended}
@@ -39,8 +39,7 @@ is_long Closed = false
 -- a request that an ioproc serves
 abbrev pub asks_io : Request → Bool
 asks_io (IoRequest r) = true
-asks_io (ThreadRequest r) = false
-asks_io (ChanRequest r) = false
+asks_io r = false
 
 -- thread u waits for an ioproc
 abbrev pub is_io_wait_of : ℕ → Waiter → Bool

@@ -3,7 +3,7 @@ use Rattle.std.proofs.Common.{◌≡◌, ◌≢◌, ℕ, ◌+◌, ◌≤◌, Boo
 use Rattle.std.proofs.lemmas.Bool.{cases_eq}
 use Rattle.p9_word.specs.declared.answer.Answer.{Answer}
 use Rattle.p9_word.specs.declared.request.Request.{Request}
-use Rattle.p9_word.specs.declared.request.Request.TheVariants.{Thread as ThreadRequest, Chan as ChanRequest, Io as IoRequest}
+use Rattle.p9_word.specs.declared.request.Request.TheVariants.{Chan as ChanRequest}
 use Rattle.p9_manual.specs.declared.state.Place.{Place}
 use Rattle.p9_manual.specs.declared.state.Place.TheVariants.{Running, New, Ready, Waiting, Ended}
 use Rattle.p9_manual.specs.declared.state.Waiter.{Waiter}
@@ -43,8 +43,7 @@ chan_wait_step t u (ChanRequest r) at = some_step t u at (alternation_of (ChanRe
     some_step : (t u at : ℕ) (o : Option Alternation) → tally (is_party u) (party_with t at o) ≤ cond (eqb t u && true) 1 0
     some_step t u at None = omega arith
     some_step t u at (Some a) = one_step (eqb t u)
-chan_wait_step t u (ThreadRequest r) at = omega arith
-chan_wait_step t u (IoRequest r) at = omega arith
+chan_wait_step t u r at = omega arith
 
 -- who waits in an alt waits, but not for an ioproc
 pub parties_wait : (u : ℕ) → (waits : List Waiter) → tally (is_party u) (parties waits) ≤ tally (is_chan_wait_of u) waits

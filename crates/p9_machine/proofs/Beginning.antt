@@ -2,29 +2,24 @@
 use Rattle.std.proofs.Common.{◌≡◌, ℕ, zero, suc, ◌+◌, ◌-◌, ◌<◌, ◌≤◌, Bool, true, false, cond, List, [], ◌∷◌, ◌++◌, length, map, replicate, take, None, refl, ap, sym, subst, ◌∙◌, arith, rules, tests}
 use Rattle.std.specs.Prelude.{◌==◌, ◌&&◌, slice_get, nat_lt, All, get_or}
 use Rattle.std.proofs.lemmas.List.{length-map, length-take-le, take_more}
-use Rattle.rand_pcg.specs.Lcg.{Lcg, started, increment_of, state_after}
+use Rattle.rand_pcg.specs.Lcg.{started, increment_of, state_after}
 use Rattle.rand_pcg.specs.Pcg.{multiplier_64}
 use Rattle.p9_word.specs.Setup.{IsThreadOf, IsValid}
-use Rattle.p9_word.specs.declared.setup.ChanSetup.{ChanSetup}
 use Rattle.p9_word.specs.declared.setup.Setup.{Setup}
 use Rattle.p9_word.specs.declared.setup.ThreadSetup.{ThreadSetup}
 use Rattle.p9_manual.specs.declared.state.Ioproc.TheVariants.{Unmade}
 use Rattle.p9_manual.specs.declared.state.Thread.{Thread}
 use Rattle.p9_manual.specs.Create.{with_thread}
-use Rattle.p9_manual.specs.History.{ids_from, new_thread, new_channel, new_proc, begin_state}
+use Rattle.p9_manual.specs.History.{ids_from, new_thread, new_proc, begin_state}
 use Rattle.p9_manual.specs.Places.{runs_in}
 use Rattle.p9_manual.specs.Standing.{StandOnce, times, place_of, place_in, times_in_line, times_in_waits}
 use Rattle.p9_manual.specs.State.{State, Proc, by_id, changed}
 use Rattle.p9_manual.specs.Threads.{with_changed, with_name}
 use Rattle.p9_manual.specs.Draws.{generator_after}
-use Rattle.p9_chan.specs.Channels.{emptied_chan}
-use Rattle.p9_alt.specs.Exchange.{Exchange}
 use Rattle.p9_io.specs.Calls.{begun_count}
-use Rattle.p9_io.specs.Desks.{Desks, begin_desks}
 use Rattle.p9_sched.specs.Schedule.{Schedule, IsPlace, line_in, begin_schedule}
 use Rattle.p9_sched.specs.Stands.{SchedFor, proc_with}
 use Rattle.p9_machine.specs.Begin.{with_first}
-use Rattle.p9_machine.specs.Board.{Stands}
 
 changed_last : {A : Type 0} (f : A → A) → (xs : List A) (x : A) → changed f (xs ++ x ∷ []) (length xs) ≡ xs ++ f x ∷ []
 changed_last f [] x = refl
@@ -158,7 +153,7 @@ few_first setup items i s same lt valid first =
     omega arith
 
 -- no draw was made
-none_drawn : (start : ℕ) → generator_after start 0 ≡ started 64 multiplier_64 start (increment_of 64 54)
+pub none_drawn : (start : ℕ) → generator_after start 0 ≡ started 64 multiplier_64 start (increment_of 64 54)
 unfolding state_after
 none_drawn start = refl
 
@@ -166,15 +161,3 @@ none_drawn start = refl
 pub none_begun : (files : ℕ) → begun_count (replicate files Unmade) ≡ 0
 none_begun zero = refl
 none_begun (suc n) = let h = none_begun n in omega arith
-
--- the board at the start
-pub begun_board : (setup copy : Setup) (sched : Schedule) (alts : Exchange) (io : Desks) (generator : Lcg) (chans : List ChanSetup) → copy ≡ setup → SchedFor setup.places sched (begin_state setup) → alts.waits ≡ [] → alts.channels.chans ≡ map new_channel chans → chans ≡ setup.chans → io ≡ begin_desks setup.files → generator ≡ started 64 multiplier_64 setup.start (increment_of 64 54) → Stands (record { setup = copy; sched = sched; alts = alts; io = io; generator = generator; position = 0; over = false }) (begin_state setup)
-begun_board setup copy sched alts io generator chans es threads ew ec same ei eg = record {
-  sched = rw es threads;
-  alts = record { waits = ew; chans = ap (map emptied_chan) (ec ∙ ap (λ (cs : List ChanSetup). map new_channel cs) same) };
-  io = record { ioprocs = rw ei refl };
-  draws = rw es (eg ∙ sym (none_drawn setup.start));
-  holds = rw es refl;
-  position = refl;
-  over = refl;
-}

@@ -25,7 +25,7 @@ use Rattle.p9_machine.specs.declared.board.Board.{Board}
 use Rattle.p9_machine.specs.Board.{Stands, Gives, left}
 use Rattle.p9_machine.specs.Reserved.{IsStray}
 use Rattle.p9_machine.specs.Shown.{is_told}
-use Rattle.p9_machine.proofs.Staying.{moved, with_sched, alts_stay, io_stays}
+use Rattle.p9_machine.proofs.Staying.{moved, with_sched, with_sched_io, io_stays}
 
 -- the requests on threads
 pub threads_served : (board : Board) (s : State) (o : Outcome) (r : Reply) (sched : Schedule) → ThreadServes board.setup.places s o r sched → Stands board s → Gives s o r (record board { sched = sched })
@@ -47,17 +47,7 @@ chans_served board s o r sched alts generator v st =
 
 -- the requests on ioprocs, and what ioprocs do
 io_stands : (board : Board) (s : State) (o : Outcome) (r : Reply) (sched : Schedule) (io : Desks) → IoServes board.setup s o r sched io → Stands board s → Stands (record board { sched = sched; io = io }) o.state
-io_stands board s o r sched io v st =
-    let e = v.others in
-    record {
-      sched = v.threads;
-      alts = alts_stay board.alts s o.state v.alts (ap (λ (x : State). x.chans) e) st.alts;
-      io = v.ioprocs;
-      draws = rw (ap (λ (x : State). x.draws) e) st.draws;
-      holds = ap (λ (x : State). x.holds) e ∙ st.holds;
-      position = ap (λ (x : State). x.position) e ∙ st.position;
-      over = ap (λ (x : State). x.over) e ∙ st.over;
-    }
+io_stands board s o r sched io v st = with_sched_io board sched io s o.state v.others v.alts v.threads v.ioprocs st
 
 pub io_served : (board : Board) (s : State) (o : Outcome) (r : Reply) (sched : Schedule) (io : Desks) → makes_entry r ≡ true → IoServes board.setup s o r sched io → Stands board s → Gives s o r (record board { sched = sched; io = io })
 io_served board s o r sched io makes v st = moved (record board { sched = sched; io = io }) s o r v.reply_is makes (io_stands board s o r sched io v st)

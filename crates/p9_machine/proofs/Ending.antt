@@ -22,7 +22,7 @@ use Rattle.p9_sched.specs.Turns.{place_of, place_at}
 use Rattle.p9_sched.specs.declared.turns.Place.TheVariants as place
 use Rattle.p9_machine.specs.declared.board.Board.{Board}
 use Rattle.p9_machine.specs.Board.{Stands, IsRunning, Gives}
-use Rattle.p9_machine.proofs.Staying.{alts_stay}
+use Rattle.p9_machine.proofs.Staying.{with_sched_io}
 
 drop_none : {A : Type 0} (b : Bool) (x : A) (n : ℕ) (xs ys : List A) → cond b 1 0 + n ≡ 0 → (n ≡ 0 → xs ≡ ys) → cond (not b) (x ∷ xs) xs ≡ x ∷ ys
 drop_none true x n xs ys h more = absurd (omega arith)
@@ -52,15 +52,7 @@ no_wait t s runs stand = none_out (λ w. w.tid == t) s.waits (stand.in_waits t �
 pub thread_ended : (board : Board) (sched : Schedule) (io : Desks) (t : ℕ) (s : State) → IsRunning t board.sched → Tracks (ended t) board.sched sched → IoTracks (ended t) board.io io → Stands board s → IsSound board.setup s → Gives s (replied EndedReply (ended t s)) EndedReply (record board { sched = sched; io = io })
 thread_ended board sched io t s runs threads ioprocs st sound = record {
   reply_is = refl;
-  stands = record {
-    sched = threads board.setup.places s st.sched;
-    alts = alts_stay board.alts s (ended t s) (ap parties (no_wait t s (rw st.sched.threads runs) sound.stand)) refl st.alts;
-    io = ioprocs s st.io;
-    draws = st.draws;
-    holds = st.holds;
-    position = st.position;
-    over = st.over;
-  };
+  stands = with_sched_io board sched io s (ended t s) refl (ap parties (no_wait t s (rw st.sched.threads runs) sound.stand)) (threads board.setup.places s st.sched) (ioprocs s st.io) st;
 }
 
 exits_by : (setup : Setup) (t : ℕ) (text : List ℕ) (s : State) (o : Option Thread) → place_of o ≡ place.Running → asked_by setup t (ask.ThreadExits text) s o ≡ replied EndedReply (ended t s)

@@ -53,6 +53,18 @@ with_sched board sched s n same h st = record {
   over = ap (λ (x : State). x.over) same ∙ st.over;
 }
 
+-- threads and ioprocs that stand for a state in which the same threads wait in alts, and the other parts read the same as before
+pub with_sched_io : (board : Board) (sched : Schedule) (io : Desks) (s n : State) → n ≡ record s { threads = n.threads; line = n.line; waits = n.waits; ioprocs = n.ioprocs } → parties n.waits ≡ parties s.waits → SchedFor board.setup.places sched n → IoFor io n → Stands board s → Stands (record board { sched = sched; io = io }) n
+with_sched_io board sched io s n same waits h i st = record {
+  sched = h;
+  alts = alts_stay board.alts s n waits (ap (λ (x : State). x.chans) same) st.alts;
+  io = i;
+  draws = rw (ap (λ (x : State). x.draws) same) st.draws;
+  holds = ap (λ (x : State). x.holds) same ∙ st.holds;
+  position = ap (λ (x : State). x.position) same ∙ st.position;
+  over = ap (λ (x : State). x.over) same ∙ st.over;
+}
+
 -- a reply that makes no entry changes nothing
 pub unmoved : (board : Board) (s : State) (r : Reply) → makes_entry r ≡ false → Stands board s → Gives s (same r s) r board
 unmoved board s r quiet h = record { reply_is = refl; stands = rw quiet h }

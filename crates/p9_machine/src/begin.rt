@@ -1,6 +1,10 @@
 ghost use Rattle.std.specs.Prelude.{◌≡◌, ◌+◌, ◌<◌, ◌≤◌, ◌∷◌, ◌++◌, [], false, map, length, replicate, IfOk, OnOk};
 ghost use Rattle.p9_word.specs.Setup.{IsValid};
 ghost use Rattle.p9_manual.specs.History.{begin_state, new_channel};
+ghost use Rattle.p9_manual.specs.Draws.{generator_after};
+ghost use Rattle.p9_alt.specs.For.{AltsFor};
+ghost use Rattle.p9_io.specs.Calls.{begun_count};
+ghost use Rattle.p9_io.specs.Stands.{IoFor};
 ghost use Rattle.p9_sched.specs.Schedule.{IsPlace};
 ghost use Rattle.p9_sched.specs.Stands.{SchedFor};
 ghost use Rattle.p9_machine.specs.Board.{Stands, calls_of};
@@ -52,8 +56,8 @@ fn add_channel(alts: &mut Alts, setup: &ChanSetup) -> Result<(), NoMemory>
     Ok(())
 }
 
-/// The channels at the start, and nobody waits.
-fn begin_alts(alloc: Global, setups: &[ChanSetup]) -> Result<Alts, NoMemory>
+/// These channels, and nobody waits.
+fn begin_channels(alloc: Global, setups: &[ChanSetup]) -> Result<Alts, NoMemory>
     requires { length setups.now ≤ 1024 }
     ensures chans { IfOk result (λ a. a.channels.chans ≡ map new_channel setups.now) }
     ensures waits { IfOk result (λ a. a.waits ≡ []) }
@@ -65,7 +69,56 @@ fn begin_alts(alloc: Global, setups: &[ChanSetup]) -> Result<Alts, NoMemory>
     Ok(alts)
 }
 
-/// The board at the start.
+/// The channels at the start, and nobody waits.
+fn begin_alts(alloc: Global, setup: &Setup) -> Result<Alts, NoMemory>
+    requires { IsValid setup.now }
+    ensures { IfOk result (λ a. AltsFor a (begin_state setup.now)) }
+{
+    begin_channels(alloc, setup.chans.as_slice())
+}
+
+/// The ioprocs at the start, none of which is made.
+#[tactic(auto, using(crate::proofs::Beginning::none_begun))]
+fn begin_io(alloc: Global, setup: &Setup) -> Result<IoBoard, NoMemory>
+    ensures ioprocs { IfOk result (λ d. IoFor d (begin_state setup.now)) }
+    ensures rooms { IfOk result (λ d. d.rooms ≡ replicate setup.now.files false) }
+    ensures calls { IfOk result (λ d. begun_count d.ioprocs ≡ 0) }
+{
+    IoBoard::new(alloc, setup.files)
+}
+
+/// What draws the words of the run, before the first one.
+#[tactic(auto, using(crate::proofs::Beginning::none_drawn))]
+fn begin_generator(setup: &Setup) -> Pcg32
+    ensures { result ≡ generator_after setup.now.start 0 }
+{
+    Pcg32::new(setup.start, 54)
+}
+
+/// The board at the start, with each part as the setup says.
+fn begin_parts(alloc: Global, setup: Setup) -> Result<Board, NoMemory>
+    requires { IsValid setup }
+    ensures board { IfOk result (λ b. Stands b (begin_state setup)) }
+    ensures setup { IfOk result (λ b. b.setup ≡ setup) }
+    ensures rooms { IfOk result (λ b. b.io.rooms ≡ replicate setup.files false) }
+    ensures calls { IfOk result (λ b. calls_of b ≡ 0) }
+{
+    let sched = begin_sched(alloc, &setup)?;
+    let alts = begin_alts(alloc, &setup)?;
+    let io = begin_io(alloc, &setup)?;
+    let generator = begin_generator(&setup);
+    Ok(Board {
+        setup,
+        sched,
+        alts,
+        io,
+        generator,
+        position: 0,
+        over: false,
+    })
+}
+
+/// The board at the start, with a copy of the setup.
 pub(crate) fn begin_board(alloc: Global, setup: &Setup) -> Result<Board, NoMemory>
     requires { IsValid setup.now }
     ensures board { IfOk result (λ b. Stands b (begin_state setup.now)) }
@@ -74,16 +127,5 @@ pub(crate) fn begin_board(alloc: Global, setup: &Setup) -> Result<Board, NoMemor
     ensures calls { IfOk result (λ b. calls_of b ≡ 0) }
 {
     let copy = setup.copied(alloc)?;
-    let sched = begin_sched(alloc, setup)?;
-    let alts = begin_alts(alloc, setup.chans.as_slice())?;
-    let io = IoBoard::new(alloc, setup.files)?;
-    Ok(Board {
-        setup: copy,
-        sched,
-        alts,
-        io,
-        generator: Pcg32::new(setup.start, 54),
-        position: 0,
-        over: false,
-    })
+    begin_parts(alloc, copy)
 }

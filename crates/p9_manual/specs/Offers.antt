@@ -10,7 +10,7 @@ use Rattle.p9_word.specs.declared.alt.AltEntry.{AltEntry}
 use Rattle.p9_word.specs.declared.alt.Ending.{Ending}
 use Rattle.p9_word.specs.declared.alt.Ending.TheVariants.{End, NoBlk}
 use Rattle.p9_word.specs.declared.request.Request.{Request}
-use Rattle.p9_word.specs.declared.request.Request.TheVariants.{Chan as ChanRequest, Thread as ThreadRequest, Io as IoRequest}
+use Rattle.p9_word.specs.declared.request.Request.TheVariants.{Chan as ChanRequest}
 use Rattle.p9_word.specs.declared.request.ChanReq.{ChanReq}
 use Rattle.p9_word.specs.declared.request.ChanReq.TheVariants as ask
 use Rattle.p9_manual.specs.declared.state.Waiter.{Waiter}
@@ -56,8 +56,7 @@ alternation (ask.ChanClosing c) = None
 -- the same of any request
 abbrev pub alternation_of : Request → Option Alternation
 alternation_of (ChanRequest r) = alternation r
-alternation_of (ThreadRequest r) = None
-alternation_of (IoRequest r) = None
+alternation_of r = None
 
 -- a thread with an alt that it made at this position of the trail
 abbrev pub party : ℕ → ℕ → Alternation → Party

@@ -5,8 +5,8 @@ use Rattle.std.specs.Option.{is_some}
 use Rattle.p9_word.specs.Setup.{IsBetween}
 use Rattle.p9_word.specs.declared.setup.Setup.{Setup}
 use Rattle.p9_word.specs.declared.request.Request.{Request}
-use Rattle.p9_word.specs.declared.request.Request.TheVariants.{Chan as ChanRequest, Thread as ThreadRequest, Io as IoRequest}
-use Rattle.p9_word.specs.declared.request.IoReq.TheVariants.{IoProc, IoRun, CloseIoProc}
+use Rattle.p9_word.specs.declared.request.Request.TheVariants.{Chan as ChanRequest, Io as IoRequest}
+use Rattle.p9_word.specs.declared.request.IoReq.TheVariants.{IoRun}
 use Rattle.p9_word.specs.declared.io_call.IoCall.{IoCall}
 use Rattle.p9_manual.specs.declared.state.Thread.{Thread}
 use Rattle.p9_manual.specs.declared.state.Waiter.{Waiter}
@@ -28,10 +28,8 @@ pub record IsThreadIn (opened programs : ℕ) (t : Thread) : Type 0 where
 -- the requests in which threads wait: alts, and calls through ioprocs
 abbrev pub can_wait : Request → Bool
 can_wait (ChanRequest r) = is_some (alternation r)
-can_wait (ThreadRequest r) = false
 can_wait (IoRequest (IoRun k call)) = true
-can_wait (IoRequest (IoProc k)) = false
-can_wait (IoRequest (CloseIoProc k)) = false
+can_wait r = false
 
 -- no send waits on this channel: it is closed or has room, or isn't there
 abbrev pub takes_sends : Option Channel → Bool

@@ -3,7 +3,7 @@ use Rattle.std.proofs.Common.{◌≡◌, ℕ, ◌||◌, Bool, true, false, not, 
 use Rattle.std.specs.Prelude.{option_map, nat_lt}
 use Rattle.std.specs.List.{list_any, cons_option}
 use Rattle.p9_word.specs.declared.request.Request.{Request}
-use Rattle.p9_word.specs.declared.request.Request.TheVariants.{Thread as ThreadRequest, Chan as ChanRequest, Io as IoRequest}
+use Rattle.p9_word.specs.declared.request.Request.TheVariants.{Chan as ChanRequest}
 use Rattle.p9_word.specs.declared.request.ChanReq.{ChanReq}
 use Rattle.p9_word.specs.declared.request.IoReq.{IoReq}
 use Rattle.p9_word.specs.declared.request.IoReq.TheVariants.{IoProc, IoRun, CloseIoProc}
@@ -27,12 +27,12 @@ use Rattle.p9_manual.specs.Ioprocs.{make, post_call, close_ioproc, io_call, take
 use Rattle.p9_manual.specs.Next.{next_event, next_of, turn, is_place, is_over, started}
 use Rattle.p9_manual.specs.Places.{lives, runs_in, runs_there, is_of}
 use Rattle.p9_manual.specs.State.{Move, State, Outcome, by_id, pick, same, bad}
-use Rattle.p9_manual.specs.Step.{step, outcome, called, served}
+use Rattle.p9_manual.specs.Step.{step, outcome, called}
 use Rattle.p9_manual.specs.Stuck.{is_stuck}
-use Rattle.p9_manual.specs.Threads.{thread_call}
 use Rattle.p9_manual.specs.History.{after_entry}
 use Rattle.p9_laws.specs.Moves.{moves_from}
-use Rattle.p9_laws.proofs.Asked.{Does, Answers, ChangesCaller, ChangesProcs, MakesThread, MakesProc, GivesWay, Ends, EndsAll, thread_call_does}
+use Rattle.p9_laws.proofs.Asked.{Does, Answers, ChangesCaller, ChangesAside, MakesThread, MakesProc, GivesWay, Ends, EndsAll}
+use Rattle.p9_laws.proofs.Groups.{Kind, Plain, OfChans, OfIoprocs, served_kind}
 use Rattle.p9_laws.proofs.AskedChans.{DoesToChans, Tells, MakesChannel, FreesChannel, ClosesChannel, on_channel_does}
 
 -- the value that leaves a channel by an alt with this verdict
@@ -68,7 +68,7 @@ if_none false o p f g = g
 asked_none : (setup : Setup) (t : ℕ) (s : State) (o : Outcome) → Does setup t s o → MovesNone o
 asked_none setup t s _ (Answers a) = refl
 asked_none setup t s _ (ChangesCaller f caller a at leaves grants) = refl
-asked_none setup t s _ (ChangesProcs procs a grants) = refl
+asked_none setup t s _ (ChangesAside procs holds a grants) = refl
 asked_none setup t s _ (MakesThread program arg caller at own) = refl
 asked_none setup t s _ (MakesProc program arg caller at own room) = refl
 asked_none setup t s _ GivesWay = refl
@@ -153,15 +153,15 @@ by_alternation_moves setup t r s None = nothing_told (on_channel r s) (chans_non
 by_alternation_moves setup t r s (Some a) =
     if_moves (fits_all s.chans a.entries) _ (bad s) (moved_by (verdict_of setup t a s)) (decided_moves t (ChanRequest r) (with_draw a.entries s) (verdict_of setup t a s)) refl
 
-served_moves : (setup : Setup) (t : ℕ) (r : Request) (s : State) → told_by (served setup t r s) ≡ moved_in setup t s (alternation_of r)
-unfolding served chan_call
-served_moves setup t (ThreadRequest r) s = nothing_told (thread_call setup t r s) (asked_none setup t s _ (thread_call_does setup t r s))
-served_moves setup t (ChanRequest r) s = by_alternation_moves setup t r s (alternation r)
-served_moves setup t (IoRequest r) s = nothing_told (io_call setup t r s) (io_call_none setup t r s)
+kind_moves : (setup : Setup) (t : ℕ) (s : State) (r : Request) (o : Outcome) → Kind setup t s r o → told_by o ≡ moved_in setup t s (alternation_of r)
+unfolding chan_call
+kind_moves setup t s _ _ (Plain r o no_alt does) = rw no_alt (nothing_told o (asked_none setup t s o does))
+kind_moves setup t s _ _ (OfChans r) = by_alternation_moves setup t r s (alternation r)
+kind_moves setup t s _ _ (OfIoprocs r) = nothing_told (io_call setup t r s) (io_call_none setup t r s)
 
 outcome_moves : (setup : Setup) (seat : Seat) (event : Event) (s : State) → told_by (outcome setup seat event s) ≡ moved_at setup seat event s
 unfolding outcome called
-outcome_moves setup (Proc p) (Call t r) s = if_moves (runs_there p (by_id s.threads t)) _ (same Stray s) _ (served_moves setup t r s) refl
+outcome_moves setup (Proc p) (Call t r) s = if_moves (runs_there p (by_id s.threads t)) _ (same Stray s) _ (kind_moves setup t s r _ (served_kind setup t r s)) refl
 outcome_moves setup (Proc p) Next s = nothing_told (next_event setup p s) (next_event_none setup p s)
 outcome_moves setup (Proc p) IoTake s = refl
 outcome_moves setup (Proc p) (IoDid effect) s = refl

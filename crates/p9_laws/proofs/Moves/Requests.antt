@@ -6,7 +6,6 @@ use Rattle.std.proofs.lemmas.List.{append-nil}
 use Rattle.p9_word.specs.declared.answer.Answer.{Answer}
 use Rattle.p9_word.specs.declared.setup.Setup.{Setup}
 use Rattle.p9_word.specs.declared.trail.Entry.{Entry}
-use Rattle.p9_word.specs.declared.request.ThreadReq.{ThreadReq}
 use Rattle.p9_word.specs.declared.request.ChanReq.{ChanReq}
 use Rattle.p9_word.specs.declared.request.Request.TheVariants.{Io as IoRequest}
 use Rattle.p9_word.specs.declared.request.IoReq.{IoReq}
@@ -28,9 +27,8 @@ use Rattle.p9_manual.specs.Next.{next_event, next_of, turn, is_place, is_over, s
 use Rattle.p9_manual.specs.Places.{lives, runs_in, is_of}
 use Rattle.p9_manual.specs.State.{Move, State, Outcome, by_id, changed, pick, waits_without, wake}
 use Rattle.p9_manual.specs.Stuck.{is_stuck}
-use Rattle.p9_manual.specs.Threads.{thread_call}
 use Rattle.p9_laws.proofs.AskedChans.{DoesToChans, Tells, MakesChannel, FreesChannel, ClosesChannel, on_channel_does}
-use Rattle.p9_laws.proofs.Asked.{Does, Answers, ChangesCaller, ChangesProcs, MakesThread, MakesProc, GivesWay, Ends, EndsAll, thread_call_does}
+use Rattle.p9_laws.proofs.Asked.{Does, Answers, ChangesCaller, ChangesAside, MakesThread, MakesProc, GivesWay, Ends, EndsAll}
 use Rattle.p9_laws.proofs.Sound.Parties.{parties_push, parties_without}
 use Rattle.p9_laws.proofs.Moves.Senders.{not_of}
 use Rattle.p9_laws.proofs.Moves.Kept.{Kept, kept_less, kept_changed, kept_created}
@@ -56,18 +54,15 @@ none_pass (w ∷ ws) = none_pass ws
 nobody_left : (H : List Entry) (n : ℕ) (ms : List Move) (chans : List Channel) (waits : List Party) → Kept H n ms chans waits → Kept H n ms chans []
 nobody_left H n ms chans waits k = rw (sym (none_pass waits)) (kept_less (λ w. false) H n ms chans waits k)
 
-asked_leaves : (setup : Setup) (t : ℕ) (s : State) (o : Outcome) → Does setup t s o → Leaves s o.state
+pub asked_leaves : (setup : Setup) (t : ℕ) (s : State) (o : Outcome) → Does setup t s o → Leaves s o.state
 asked_leaves setup t s _ (Answers x) = λ H n ms k. k
 asked_leaves setup t s _ (ChangesCaller f caller x at leaves grants) = λ H n ms k. k
-asked_leaves setup t s _ (ChangesProcs procs x grants) = λ H n ms k. k
+asked_leaves setup t s _ (ChangesAside procs holds x grants) = λ H n ms k. k
 asked_leaves setup t s _ (MakesThread program arg caller at own) = λ H n ms k. k
 asked_leaves setup t s _ (MakesProc program arg caller at own room) = λ H n ms k. k
 asked_leaves setup t s _ GivesWay = λ H n ms k. k
 asked_leaves setup t s _ Ends = λ H n ms k. without_leaves t H n ms s.chans s.waits k
 asked_leaves setup t s _ EndsAll = λ H n ms k. nobody_left H n ms s.chans (parties s.waits) k
-
-pub thread_call_leaves : (setup : Setup) (t : ℕ) (r : ThreadReq) (s : State) → Leaves s (thread_call setup t r s).state
-thread_call_leaves setup t r s = asked_leaves setup t s _ (thread_call_does setup t r s)
 
 woken_leaves : (ws : List (ℕ × Answer)) (s : State) → Leaves s (all_woken ws s)
 woken_leaves [] s H n ms k = k

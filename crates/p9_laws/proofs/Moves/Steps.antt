@@ -4,7 +4,7 @@ use Rattle.std.specs.Prelude.{slice_get}
 use Rattle.std.specs.List.{fold}
 use Rattle.std.proofs.lemmas.List.{append-nil}
 use Rattle.p9_word.specs.declared.request.Request.{Request}
-use Rattle.p9_word.specs.declared.request.Request.TheVariants.{Thread as ThreadRequest, Chan as ChanRequest, Io as IoRequest}
+use Rattle.p9_word.specs.declared.request.Request.TheVariants.{Chan as ChanRequest}
 use Rattle.p9_word.specs.declared.request.ChanReq.{ChanReq}
 use Rattle.p9_word.specs.declared.setup.Setup.{Setup}
 use Rattle.p9_word.specs.declared.trail.Entry.{Entry}
@@ -20,7 +20,6 @@ use Rattle.p9_manual.specs.Alt.{Verdict, AllClosed, Commits, NoneReady, MustWait
 use Rattle.p9_manual.specs.Places.{runs_there}
 use Rattle.p9_laws.specs.Senders.{entries_in}
 use Rattle.p9_manual.specs.Chans.{chan_call, by_alternation, on_channel}
-use Rattle.p9_manual.specs.Threads.{thread_call}
 use Rattle.p9_manual.specs.Ioprocs.{io_call, io_event}
 use Rattle.p9_manual.specs.Next.{next_event}
 use Rattle.p9_laws.specs.Moves.{moves_from}
@@ -29,10 +28,11 @@ use Rattle.p9_manual.specs.History.{after_entry, IsLegalFrom}
 use Rattle.p9_manual.specs.Sound.{IsSound}
 use Rattle.p9_manual.specs.State.{Move, State, Outcome, by_id, same}
 use Rattle.p9_manual.specs.Step.{served, called, outcome, step, counted, makes_entry}
+use Rattle.p9_laws.proofs.Groups.{Kind, Plain, OfChans, OfIoprocs, served_kind}
 use Rattle.p9_laws.proofs.Moves.Sent.{Asks}
 use Rattle.p9_laws.proofs.Moves.Kept.{kept_later, kept_longer}
 use Rattle.p9_laws.proofs.Moves.Verdicts.{KeptIn, alt_kept}
-use Rattle.p9_laws.proofs.Moves.Requests.{Leaves, thread_call_leaves, on_channel_leaves, io_call_leaves, io_event_leaves, next_event_leaves}
+use Rattle.p9_laws.proofs.Moves.Requests.{Leaves, asked_leaves, on_channel_leaves, io_call_leaves, io_event_leaves, next_event_leaves}
 
 -- a call that asks for an alt, and is answered later
 pub asks_here : (H : List Entry) (at : ℕ) (seat : Seat) (t : ℕ) (r : Request) (reply : Reply) (a : Alternation) → slice_get H at ≡ Some (record { seat = seat; event = Call t r; reply = reply }) → reply ≡ Waits → alternation_of r ≡ Some a → Asks a.entries (slice_get H at)
@@ -59,11 +59,11 @@ by_alternation_kept setup H ms seat t r s (Some a) is here sound k =
     alt_kept H ms setup t (ChanRequest r) a s is
     (λ f. asks_here H s.position seat t (ChanRequest r) _ a here (alt_waits setup t (ChanRequest r) a s f) is) sound.waits_right sound.within k
 
-served_kept : (setup : Setup) (H : List Entry) (ms : List Move) (seat : Seat) (t : ℕ) (r : Request) (s : State) → slice_get H s.position ≡ Some (record { seat = seat; event = Call t r; reply = (served setup t r s).reply }) → IsSound setup s → KeptIn H s.position ms s → KeptIn H (s.position + 1) (ms ++ moved_in setup t s (alternation_of r)) (served setup t r s).state
-unfolding served chan_call
-served_kept setup H ms seat t (ThreadRequest r) s here sound k = nothing_moves H ms s (thread_call setup t r s).state (thread_call_leaves setup t r s) k
-served_kept setup H ms seat t (ChanRequest r) s here sound k = by_alternation_kept setup H ms seat t r s (alternation r) refl here sound k
-served_kept setup H ms seat t (IoRequest r) s here sound k = nothing_moves H ms s (io_call setup t r s).state (io_call_leaves setup t r s) k
+kind_kept : (setup : Setup) (H : List Entry) (ms : List Move) (seat : Seat) (t : ℕ) (s : State) (r : Request) (o : Outcome) → Kind setup t s r o → slice_get H s.position ≡ Some (record { seat = seat; event = Call t r; reply = o.reply }) → IsSound setup s → KeptIn H s.position ms s → KeptIn H (s.position + 1) (ms ++ moved_in setup t s (alternation_of r)) o.state
+unfolding chan_call
+kind_kept setup H ms seat t s _ _ (Plain r o no_alt does) here sound k = rw no_alt (nothing_moves H ms s o.state (asked_leaves setup t s o does) k)
+kind_kept setup H ms seat t s _ _ (OfChans r) here sound k = by_alternation_kept setup H ms seat t r s (alternation r) refl here sound k
+kind_kept setup H ms seat t s _ _ (OfIoprocs r) here sound k = nothing_moves H ms s (io_call setup t r s).state (io_call_leaves setup t r s) k
 
 -- an entry of a history, which has the reply of this outcome
 abbrev pub IsHere : List Entry → ℕ → Seat → Event → Outcome → Type 0
@@ -80,7 +80,7 @@ outcome_kept : (setup : Setup) (H : List Entry) (ms : List Move) (seat : Seat) (
 unfolding outcome called
 outcome_kept setup H ms (Proc p) (Call t r) s here sound k =
     if_runs H ms (moved_in setup t s (alternation_of r)) (Proc p) (Call t r) s (runs_there p (by_id s.threads t)) (served setup t r s) (same Stray s) here
-    (λ h. served_kept setup H ms (Proc p) t r s h sound k) (stays H ms s k)
+    (λ h. kind_kept setup H ms (Proc p) t s r _ (served_kind setup t r s) h sound k) (stays H ms s k)
 outcome_kept setup H ms (Proc p) Next s here sound k = nothing_moves H ms s (next_event setup p s).state (next_event_leaves setup p s) k
 outcome_kept setup H ms (Proc p) IoTake s here sound k = stays H ms s k
 outcome_kept setup H ms (Proc p) (IoDid effect) s here sound k = stays H ms s k

@@ -9,7 +9,7 @@ use Rattle.p9_word.specs.declared.alt.Ending.TheVariants.{End, NoBlk}
 use Rattle.p9_word.specs.declared.answer.Answer.{Answer}
 use Rattle.p9_word.specs.declared.answer.Answer.TheVariants.{Closed, NoBlock}
 use Rattle.p9_word.specs.declared.request.Request.{Request}
-use Rattle.p9_word.specs.declared.request.Request.TheVariants.{Thread as ThreadRequest, Chan as ChanRequest, Io as IoRequest}
+use Rattle.p9_word.specs.declared.request.Request.TheVariants.{Chan as ChanRequest}
 use Rattle.p9_word.specs.declared.request.ChanReq.{ChanReq}
 use Rattle.p9_word.specs.declared.request.ChanReq.TheVariants as ask
 use Rattle.p9_word.specs.declared.setup.Setup.{Setup}
@@ -86,8 +86,7 @@ one_asked r = tt
 
 one_of : (r : Request) → IsOne (alternation_of r)
 one_of (ChanRequest r) = one_asked r
-one_of (ThreadRequest r) = tt
-one_of (IoRequest r) = tt
+one_of r = tt
 
 alone_of : (t at : ℕ) (o : Option Alternation) (a : Alternation) → o ≡ Some a → IsOne o → IsAlone (party t at a)
 alone_of t at o a e one = subst IsOne e one

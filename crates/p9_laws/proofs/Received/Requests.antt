@@ -6,7 +6,6 @@ use Rattle.p9_manual.specs.declared.state.Party.{Party}
 use Rattle.p9_word.specs.declared.answer.Answer.{Answer}
 use Rattle.p9_word.specs.declared.answer.Answer.TheVariants.{Done, Number}
 use Rattle.p9_word.specs.declared.request.Request.TheVariants.{Io as IoRequest}
-use Rattle.p9_word.specs.declared.request.ThreadReq.{ThreadReq}
 use Rattle.p9_word.specs.declared.request.ChanReq.{ChanReq}
 use Rattle.p9_word.specs.declared.request.IoReq.{IoReq}
 use Rattle.p9_word.specs.declared.request.IoReq.TheVariants.{IoProc, IoRun, CloseIoProc}
@@ -23,23 +22,22 @@ use Rattle.p9_manual.specs.State.{Move, State, Outcome, by_id, changed, now, wak
 use Rattle.p9_manual.specs.Offers.{parties}
 use Rattle.p9_manual.specs.AltEntries.{is_on, waits_on, first_number}
 use Rattle.p9_manual.specs.Told.{failed_answer}
-use Rattle.p9_manual.specs.Threads.{thread_call}
 use Rattle.p9_manual.specs.Create.{fresh}
 use Rattle.p9_manual.specs.Close.{closed_chan, freed_chan, failed_on, all_failed, all_woken}
 use Rattle.p9_manual.specs.Chans.{empty_channel, on_channel}
 use Rattle.p9_manual.specs.Ioprocs.{with_ioproc, make, post_call, close_ioproc, io_call}
 use Rattle.p9_laws.proofs.AskedChans.{DoesToChans, Tells, MakesChannel, FreesChannel, ClosesChannel, on_channel_does}
-use Rattle.p9_laws.proofs.Asked.{Does, Answers, ChangesCaller, ChangesProcs, MakesThread, MakesProc, GivesWay, Ends, EndsAll, thread_call_does}
+use Rattle.p9_laws.proofs.Asked.{Does, Answers, ChangesCaller, ChangesAside, MakesThread, MakesProc, GivesWay, Ends, EndsAll}
 use Rattle.p9_laws.proofs.Received.Places.{IsQuiet}
 use Rattle.p9_laws.proofs.Received.Agrees.{Agrees, put_quietly, left_there, one_more, all_gone, fewer_waits, other_chans}
 use Rattle.p9_laws.proofs.Received.Grows.{Grows, grows_same, grows_push, grows_changed}
 use Rattle.p9_laws.proofs.Received.Outcomes.{Stays, if_stays, now_stays, bad_stays, done_stays, waiting_stays}
 
-asked_stays : (setup : Setup) (t : ℕ) (s : State) (o : Outcome) → Does setup t s o → Stays t s o
+pub asked_stays : (setup : Setup) (t : ℕ) (s : State) (o : Outcome) → Does setup t s o → Stays t s o
 asked_stays setup t s _ (Answers x) = now_stays t s x
 asked_stays setup t s _ (ChangesCaller f caller x at leaves grants) =
     record { silent = refl; grows = grows_same [] s.chans; agrees = λ H ms rs last e a. left_there a f leaves.place (t - 1) }
-asked_stays setup t s _ (ChangesProcs procs x grants) = record { silent = refl; grows = grows_same [] s.chans; agrees = λ H ms rs last e a. a }
+asked_stays setup t s _ (ChangesAside procs holds x grants) = record { silent = refl; grows = grows_same [] s.chans; agrees = λ H ms rs last e a. a }
 asked_stays setup t s _ (MakesThread program arg caller at own) =
     record { silent = refl; grows = grows_same [] s.chans; agrees = λ H ms rs last e a. one_more a (fresh caller.proc_no program arg caller.group) refl }
 asked_stays setup t s _ (MakesProc program arg caller at own room) =
@@ -52,9 +50,6 @@ asked_stays setup t s _ GivesWay = done_stays t s Done (record { nothing = λ u.
 asked_stays setup t s _ Ends =
     record { silent = refl; grows = grows_same [] s.chans; agrees = λ H ms rs last e a. fewer_waits (put_quietly a t Ended (record { nothing = λ u. refl; unsent = refl })) t }
 asked_stays setup t s _ EndsAll = record { silent = refl; grows = grows_same [] s.chans; agrees = λ H ms rs last e a. all_gone a }
-
-pub thread_call_stays : (setup : Setup) (t : ℕ) (r : ThreadReq) (s : State) → Stays t s (thread_call setup t r s)
-thread_call_stays setup t r s = asked_stays setup t s _ (thread_call_does setup t r s)
 
 ioproc_stays : (t k : ℕ) (io : Ioproc) (x : Answer) (s : State) → Stays t s (now x (with_ioproc k io s))
 ioproc_stays t k io x s = record { silent = refl; grows = grows_same [] s.chans; agrees = λ H ms rs last e a. a }

@@ -4,7 +4,7 @@ use Rattle.std.specs.List.{filter}
 use Rattle.std.proofs.lemmas.List.Elements.{filter-append}
 use Rattle.std.proofs.lemmas.List.Concat.{flat_map-append}
 use Rattle.p9_word.specs.declared.request.Request.{Request}
-use Rattle.p9_word.specs.declared.request.Request.TheVariants.{Chan as ChanRequest, Thread as ThreadRequest, Io as IoRequest}
+use Rattle.p9_word.specs.declared.request.Request.TheVariants.{Chan as ChanRequest}
 use Rattle.p9_manual.specs.declared.state.Waiter.{Waiter}
 use Rattle.p9_manual.specs.declared.state.Party.{Party}
 use Rattle.p9_manual.specs.Offers.{Alternation, alternation_of, party_with, party_of, parties}
@@ -71,8 +71,7 @@ times_parties t (w ∷ ws) =
 
 no_call : (k t u at : ℕ) (r : Request) → 1 ≤ times (is_tid t) (party_with u at (alternation_of r)) → call_in k u r ≡ []
 no_call k t u at (ChanRequest r) h = refl
-no_call k t u at (ThreadRequest r) h = refl
-no_call k t u at (IoRequest r) h = absurd (omega arith)
+no_call k t u at r h = absurd (omega arith)
 
 calls_step : (k t : ℕ) (b : Bool) (w : Waiter) (fs ws : List Waiter) → cond b 1 0 + times (λ x. eqb x.tid t) ws ≤ times (is_tid t) (party_of w) + times (is_tid t) (parties ws) → times (is_tid t) (party_of w) ≤ cond b 1 0 → (times (λ x. eqb x.tid t) ws ≤ times (is_tid t) (parties ws) → waiting_calls k fs ≡ waiting_calls k ws) → waiting_calls k (cond (not b) (w ∷ fs) fs) ≡ call_at k w ++ waiting_calls k ws
 calls_step k t true w fs ws h one e =
