@@ -1,6 +1,7 @@
 use crate::chan_requests::chan_request;
 use crate::fault::Fault;
 use crate::io_requests::{effect, io_request};
+use crate::lock_requests::lock_request;
 use crate::thread_requests::thread_request;
 use crate::words::Words;
 use p9_word::{Event, Request, Seat};
@@ -67,6 +68,9 @@ fn request(alloc: Global, words: &mut Words) -> Result<Request, Fault> {
     }
     if let Some(request) = chan_request(alloc, name, words)? {
         return Ok(Request::Chan(request));
+    }
+    if let Some(request) = lock_request(name, words)? {
+        return Ok(Request::Lock(request));
     }
     if let Some(request) = io_request(alloc, name, words)? {
         return Ok(Request::Io(request));

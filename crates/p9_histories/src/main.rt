@@ -29,6 +29,7 @@ mod crossing;
 mod fault;
 mod io_requests;
 mod lines;
+mod lock_requests;
 mod play;
 mod replies;
 mod script;

@@ -18,16 +18,17 @@ struct Sizes {
 }
 
 /// What a history starts from, by its first line: `history` and a name, and then those of these that are other
-/// than here, in this order: `places 1`, `opened 1`, `threads 1`, `programs 4`, `files 0`, `start 42`, and for
-/// each channel `chan` with its capacity and the size of an element.
+/// than here, in this order: `places 1`, `opened 1`, `threads 1`, `programs 4`, `files 0`, `start 42`, for each
+/// channel `chan` with its capacity and the size of an element, and for each Ref `ref` with its value.
 pub(crate) fn read_setup(alloc: Global, text: &str) -> Result<Setup, Fault>
     ensures { IfOk result IsPlain }
 {
     let mut words = Words::new(text);
     let sizes = read_sizes(&mut words)?;
-    let chans = last_channels(alloc, &mut words)?;
+    let chans = channels(alloc, &mut words)?;
+    let refs = last_refs(alloc, &mut words)?;
     let threads = threads(alloc, sizes.threads)?;
-    Ok(setup_of(alloc, sizes, threads, chans))
+    Ok(setup_of(alloc, sizes, threads, chans, refs))
 }
 
 /// The words of a first line up to its channels.
@@ -45,7 +46,13 @@ fn read_sizes(words: &mut Words) -> Result<Sizes, Fault> {
 }
 
 /// The setup of these parts.
-fn setup_of(alloc: Global, sizes: Sizes, threads: Seq<ThreadSetup>, chans: Seq<ChanSetup>) -> Setup
+fn setup_of(
+    alloc: Global,
+    sizes: Sizes,
+    threads: Seq<ThreadSetup>,
+    chans: Seq<ChanSetup>,
+    refs: Seq<u64>,
+) -> Setup
     ensures { IsPlain result }
 {
     Setup {
@@ -58,7 +65,7 @@ fn setup_of(alloc: Global, sizes: Sizes, threads: Seq<ThreadSetup>, chans: Seq<C
         qlocks: 0,
         rwlocks: 0,
         rendezes: Seq::new(alloc),
-        refs: Seq::new(alloc),
+        refs,
         files: sizes.files,
         procs: 0,
         start: sizes.start as u64,
@@ -90,13 +97,6 @@ fn threads(alloc: Global, count: u32) -> Result<Seq<ThreadSetup>, NoMemory> {
     Ok(threads.into_seq())
 }
 
-/// The channels that a line ends with.
-fn last_channels(alloc: Global, words: &mut Words) -> Result<Seq<ChanSetup>, Fault> {
-    let channels = channels(alloc, words)?;
-    words.ends()?;
-    Ok(channels)
-}
-
 fn channels(alloc: Global, words: &mut Words) -> Result<Seq<ChanSetup>, Fault> {
     let mut channels = Room::new(alloc);
     for _ in 0..1024 {
@@ -108,4 +108,24 @@ fn channels(alloc: Global, words: &mut Words) -> Result<Seq<ChanSetup>, Fault> {
         channels.push(ChanSetup { cap, elsize });
     }
     Ok(channels.into_seq())
+}
+
+/// The Refs that a line ends with.
+fn last_refs(alloc: Global, words: &mut Words) -> Result<Seq<u64>, Fault> {
+    let refs = refs(alloc, words)?;
+    words.ends()?;
+    Ok(refs)
+}
+
+fn refs(alloc: Global, words: &mut Words) -> Result<Seq<u64>, Fault> {
+    let mut refs = Room::new(alloc);
+    for _ in 0..1024 {
+        if !words.takes("ref") {
+            break;
+        }
+        let value = words.number()?;
+        refs.reserve(1)?;
+        refs.push(value);
+    }
+    Ok(refs.into_seq())
 }

@@ -2,6 +2,7 @@ pub mod Tallies
 pub mod Standing
 pub mod Asked
 pub mod AskedChans
+pub mod AskedLocks
 pub mod Groups
 pub mod RunMoves
 pub mod RunWoken

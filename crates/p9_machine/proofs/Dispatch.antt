@@ -12,10 +12,13 @@ use Rattle.p9_word.specs.declared.trail.Seat.{Seat}
 use Rattle.p9_word.specs.declared.trail.Seat.TheVariants.{Proc, Io as IoSeat}
 use Rattle.p9_manual.specs.Ioprocs.{io_event}
 use Rattle.p9_manual.specs.Next.{next_event}
+use Rattle.p9_manual.specs.Offers.{parties}
 use Rattle.p9_manual.specs.Places.{runs_there}
 use Rattle.p9_manual.specs.State.{State, Outcome, by_id, same}
 use Rattle.p9_manual.specs.Step.{makes_entry, served, called, outcome}
 use Rattle.p9_alt.specs.Exchange.{Exchange}
+use Rattle.p9_lock.specs.Locking.{Locking}
+use Rattle.p9_lock_calls.specs.Serves.{Serves as LockServes}
 use Rattle.p9_io.specs.Desks.{Desks}
 use Rattle.p9_io_calls.specs.Serves.{Serves as IoServes}
 use Rattle.p9_sched.specs.Schedule.{Schedule}
@@ -25,7 +28,7 @@ use Rattle.p9_machine.specs.declared.board.Board.{Board}
 use Rattle.p9_machine.specs.Board.{Stands, Gives, left}
 use Rattle.p9_machine.specs.Reserved.{IsStray}
 use Rattle.p9_machine.specs.Shown.{is_told}
-use Rattle.p9_machine.proofs.Staying.{moved, with_sched, with_sched_io, io_stays}
+use Rattle.p9_machine.proofs.Staying.{moved, with_sched, with_sched_io, sched_stays, alts_stay, locks_stay, io_stays}
 
 -- the requests on threads
 pub threads_served : (board : Board) (s : State) (o : Outcome) (r : Reply) (sched : Schedule) → ThreadServes board.setup.places s o r sched → Stands board s → Gives s o r (record board { sched = sched })
@@ -38,9 +41,23 @@ chans_served board s o r sched alts generator v st =
     moved (record board { sched = sched; alts = alts; generator = generator }) s o r v.reply_is v.entry (record {
       sched = v.parts.threads;
       alts = v.parts.channels;
+      locks = locks_stay board.locks s o.state (ap (λ (x : State). x.holds) e) st.locks;
       io = io_stays board.io s o.state (ap (λ (x : State). x.ioprocs) e) st.io;
       draws = v.parts.drawn;
-      holds = ap (λ (x : State). x.holds) e ∙ st.holds;
+      position = ap (λ (x : State). x.position) e ∙ st.position;
+      over = ap (λ (x : State). x.over) e ∙ st.over;
+    })
+
+-- the requests on locks
+pub locks_served : (board : Board) (s : State) (o : Outcome) (r : Reply) (locks : Locking) → LockServes s o r locks → Stands board s → Gives s o r (record board { locks = locks })
+locks_served board s o r locks v st =
+    let e = v.others in
+    moved (record board { locks = locks }) s o r v.reply_is v.entry (record {
+      sched = sched_stays board.setup.places board.sched s o.state (ap (λ (x : State). x.threads) e) (ap (λ (x : State). x.line) e) (ap (λ (x : State). x.procs) e) (ap (λ (x : State). x.opened) e) st.sched;
+      alts = alts_stay board.alts s o.state (ap (λ (x : State). parties x.waits) e) (ap (λ (x : State). x.chans) e) st.alts;
+      locks = v.stands;
+      io = io_stays board.io s o.state (ap (λ (x : State). x.ioprocs) e) st.io;
+      draws = rw (ap (λ (x : State). x.draws) e) st.draws;
       position = ap (λ (x : State). x.position) e ∙ st.position;
       over = ap (λ (x : State). x.over) e ∙ st.over;
     })

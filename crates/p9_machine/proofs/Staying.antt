@@ -12,6 +12,8 @@ use Rattle.p9_manual.specs.Step.{makes_entry, outcome, step, settled}
 use Rattle.p9_chan.specs.Channels.{emptied_chan}
 use Rattle.p9_alt.specs.Exchange.{Exchange}
 use Rattle.p9_alt.specs.For.{AltsFor}
+use Rattle.p9_lock.specs.Locking.{Locking}
+use Rattle.p9_lock.specs.Stands.{LocksFor}
 use Rattle.p9_io.specs.Desks.{Desks}
 use Rattle.p9_io.specs.Stands.{IoFor}
 use Rattle.p9_sched.specs.Schedule.{Schedule}
@@ -26,6 +28,9 @@ sched_stays places x s n et el ep eo h =
 pub alts_stay : (x : Exchange) (s n : State) → parties n.waits ≡ parties s.waits → n.chans ≡ s.chans → AltsFor x s → AltsFor x n
 alts_stay x s n ew ec h = record { waits = h.waits ∙ sym ew; chans = h.chans ∙ ap (map emptied_chan) (sym ec) }
 
+pub locks_stay : (x : Locking) (s n : State) → n.holds ≡ s.holds → LocksFor x s → LocksFor x n
+locks_stay x s n e h = record { holds = e ∙ h.holds }
+
 pub io_stays : (x : Desks) (s n : State) → n.ioprocs ≡ s.ioprocs → IoFor x s → IoFor x n
 io_stays x s n e h = record { ioprocs = e ∙ h.ioprocs }
 
@@ -34,9 +39,9 @@ pub with_position : (board : Board) (s : State) (n m : ℕ) → m ≡ n → Stan
 with_position board s n m e h = record {
   sched = sched_stays board.setup.places board.sched s _ refl refl refl refl h.sched;
   alts = alts_stay board.alts s _ refl refl h.alts;
+  locks = locks_stay board.locks s _ refl h.locks;
   io = io_stays board.io s _ refl h.io;
   draws = h.draws;
-  holds = h.holds;
   position = e;
   over = h.over;
 }
@@ -46,9 +51,9 @@ pub with_sched : (board : Board) (sched : Schedule) (s n : State) → n ≡ reco
 with_sched board sched s n same h st = record {
   sched = h;
   alts = alts_stay board.alts s n (ap (λ (x : State). parties x.waits) same) (ap (λ (x : State). x.chans) same) st.alts;
+  locks = locks_stay board.locks s n (ap (λ (x : State). x.holds) same) st.locks;
   io = io_stays board.io s n (ap (λ (x : State). x.ioprocs) same) st.io;
   draws = rw (ap (λ (x : State). x.draws) same) st.draws;
-  holds = ap (λ (x : State). x.holds) same ∙ st.holds;
   position = ap (λ (x : State). x.position) same ∙ st.position;
   over = ap (λ (x : State). x.over) same ∙ st.over;
 }
@@ -58,9 +63,9 @@ pub with_sched_io : (board : Board) (sched : Schedule) (io : Desks) (s n : State
 with_sched_io board sched io s n same waits h i st = record {
   sched = h;
   alts = alts_stay board.alts s n waits (ap (λ (x : State). x.chans) same) st.alts;
+  locks = locks_stay board.locks s n (ap (λ (x : State). x.holds) same) st.locks;
   io = i;
   draws = rw (ap (λ (x : State). x.draws) same) st.draws;
-  holds = ap (λ (x : State). x.holds) same ∙ st.holds;
   position = ap (λ (x : State). x.position) same ∙ st.position;
   over = ap (λ (x : State). x.over) same ∙ st.over;
 }

@@ -5,7 +5,6 @@ use Rattle.p9_word.specs.declared.trail.Reply.{Reply}
 use Rattle.p9_word.specs.declared.trail.Seat.{Seat}
 use Rattle.p9_manual.specs.State.{State, Outcome, by_id}
 use Rattle.p9_manual.specs.Step.{makes_entry, step}
-use Rattle.p9_manual.specs.History.{no_holds}
 use Rattle.p9_manual.specs.Sound.{IsSound}
 use Rattle.p9_manual.specs.Draws.{generator_after}
 use Rattle.p9_sched.specs.Schedule.{Schedule}
@@ -13,6 +12,7 @@ use Rattle.p9_sched.specs.Stands.{SchedFor}
 use Rattle.p9_sched.specs.Turns.{place_of}
 use Rattle.p9_sched.specs.declared.turns.Place.TheVariants as place
 use Rattle.p9_alt.specs.For.{AltsFor}
+use Rattle.p9_lock.specs.Stands.{LocksFor}
 use Rattle.p9_io.specs.Calls.{begun_count}
 use Rattle.p9_io.specs.Stands.{IoFor}
 use Rattle.p9_machine.specs.declared.board.Board.{Board}
@@ -22,9 +22,9 @@ use Rattle.p9_machine.specs.Shown.{rooms_after}
 pub record Stands (board : Board) (s : State) : Type 0 where
   pub sched : SchedFor board.setup.places board.sched s
   pub alts : AltsFor board.alts s
+  pub locks : LocksFor board.locks s
   pub io : IoFor board.io s
   pub draws : board.generator ≡ generator_after board.setup.start s.draws
-  pub holds : s.holds ≡ no_holds board.setup
   pub position : s.position ≡ board.position
   pub over : s.over ≡ board.over
 

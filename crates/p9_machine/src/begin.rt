@@ -5,6 +5,7 @@ ghost use Rattle.p9_manual.specs.Draws.{generator_after};
 ghost use Rattle.p9_alt.specs.For.{AltsFor};
 ghost use Rattle.p9_io.specs.Calls.{begun_count};
 ghost use Rattle.p9_io.specs.Stands.{IoFor};
+ghost use Rattle.p9_lock.specs.Stands.{LocksFor};
 ghost use Rattle.p9_sched.specs.Schedule.{IsPlace};
 ghost use Rattle.p9_sched.specs.Stands.{SchedFor};
 ghost use Rattle.p9_machine.specs.Board.{Stands, calls_of};
@@ -13,6 +14,7 @@ ghost use Rattle.p9_machine.specs.Begin.{StandsFirst};
 use crate::board::Board;
 use p9_alt::Alts;
 use p9_io::IoBoard;
+use p9_lock::Locks;
 use p9_sched::Sched;
 use p9_word::{ChanSetup, Datum, NoMemory, Setup, ThreadSetup};
 use rand_pcg::Pcg32;
@@ -77,6 +79,14 @@ fn begin_alts(alloc: Global, setup: &Setup) -> Result<Alts, NoMemory>
     begin_channels(alloc, setup.chans.as_slice())
 }
 
+/// The locks at the start, none of which is held.
+fn begin_locks(alloc: Global, setup: &Setup) -> Result<Locks, NoMemory>
+    ensures { IfOk result (λ l. LocksFor l (begin_state setup.now)) }
+{
+    let (locks, qlocks, rwlocks) = (setup.locks, setup.qlocks, setup.rwlocks);
+    Locks::new(alloc, locks, qlocks, rwlocks, &setup.rendezes, &setup.refs)
+}
+
 /// The ioprocs at the start, none of which is made.
 #[tactic(auto, using(crate::proofs::Beginning::none_begun))]
 fn begin_io(alloc: Global, setup: &Setup) -> Result<IoBoard, NoMemory>
@@ -105,12 +115,14 @@ fn begin_parts(alloc: Global, setup: Setup) -> Result<Board, NoMemory>
 {
     let sched = begin_sched(alloc, &setup)?;
     let alts = begin_alts(alloc, &setup)?;
+    let locks = begin_locks(alloc, &setup)?;
     let io = begin_io(alloc, &setup)?;
     let generator = begin_generator(&setup);
     Ok(Board {
         setup,
         sched,
         alts,
+        locks,
         io,
         generator,
         position: 0,

@@ -1,5 +1,6 @@
 use p9_alt::Alts;
 use p9_io::IoBoard;
+use p9_lock::Locks;
 use p9_sched::Sched;
 use p9_word::Setup;
 use rand_pcg::Pcg32;
@@ -13,6 +14,8 @@ pub(crate) struct Board {
     pub(crate) sched: Sched,
     /// The threads that wait in alts, and the channels.
     pub(crate) alts: Alts,
+    /// The locks.
+    pub(crate) locks: Locks,
     /// The ioprocs with their buffers. Each has the thread that waits for its call.
     pub(crate) io: IoBoard,
     /// What makes the draws by which alts choose.

@@ -1,13 +1,15 @@
 ghost use Rattle.std.specs.Prelude.{◌≡◌, Some, None, OnOk, OnErr};
 ghost use Rattle.p9_word.specs.declared.trail.Event.TheVariants.{Call};
 ghost use Rattle.p9_word.specs.declared.trail.Seat.TheVariants.{Proc, Io as IoSeat};
-ghost use Rattle.p9_word.specs.declared.request.Request.TheVariants.{Thread as ThreadRequest, Chan as ChanRequest, Io as IoRequest};
+ghost use Rattle.p9_word.specs.declared.request.Request.TheVariants.{Thread as ThreadRequest, Chan as ChanRequest, Lock as LockRequest, Io as IoRequest};
 ghost use Rattle.p9_machine.specs.Board.{TakesMemory};
 ghost use Rattle.p9_machine.specs.Reserved.{IsKeptFor, IsStray};
 
 use crate::board::Board;
 use crate::messages::{message_of_next, message_posted};
-use p9_word::{ChanReq, Datum, Event, IoReq, Msg, NoMemory, Request, Seat, ThreadReq, Tid};
+use p9_word::{
+    ChanReq, Datum, Event, IoReq, LockReq, Msg, NoMemory, Request, Seat, ThreadReq, Tid,
+};
 use std::alloc::Global;
 
 /// A request, with what it needs beside what the parts keep ready for it.
@@ -17,6 +19,8 @@ pub(crate) enum Asked {
     Thread(ThreadReq, p9_thread_calls::Spare),
     /// On channels.
     Chan(ChanReq, p9_chan_calls::Spare),
+    /// On locks.
+    Lock(LockReq),
     /// On ioprocs.
     Io(IoReq),
 }
@@ -128,6 +132,28 @@ fn for_chans(
     Ok(())
 }
 
+/// For a request on locks.
+#[inline(always)]
+fn for_locks(
+    board: &Board,
+    p: u32,
+    t: Tid,
+    request: &LockReq,
+    alloc: Global,
+    kept: &mut Option<Reserved>,
+) -> Result<(), NoMemory>
+    requires { kept.old ≡ None }
+    ensures memory { OnOk result (IsKeptFor board.now (Proc p) (Call t (LockRequest request.now)) kept.new) }
+    ensures none { OnErr result (kept.new ≡ None) }
+{
+    let _ = board;
+    let copy = request.copied(alloc)?;
+    let needs = Needs::Call(p, t, Asked::Lock(copy));
+    let told = Msg::new();
+    keep(kept, Reserved { needs, told });
+    Ok(())
+}
+
 /// For a request on ioprocs.
 #[inline(always)]
 fn for_ioprocs(
@@ -168,6 +194,7 @@ fn for_request(
     match request {
         Request::Thread(request) => for_threads(board, p, t, request, alloc, kept),
         Request::Chan(request) => for_chans(board, p, t, request, alloc, kept),
+        Request::Lock(request) => for_locks(board, p, t, request, alloc, kept),
         Request::Io(request) => for_ioprocs(board, p, t, request, alloc, kept),
     }
 }

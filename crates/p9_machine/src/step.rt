@@ -2,6 +2,7 @@ ghost use Rattle.std.specs.Prelude.{ℕ, ◌≡◌, ◌+◌, ◌-◌, true, fals
 ghost use Rattle.p9_word.specs.declared.trail.Seat.TheVariants.{Io as IoSeat};
 ghost use Rattle.p9_manual.specs.Chans.{chan_call};
 ghost use Rattle.p9_manual.specs.Ioprocs.{io_call, io_event};
+ghost use Rattle.p9_manual.specs.Locks.{lock_call};
 ghost use Rattle.p9_manual.specs.Places.{runs_there};
 ghost use Rattle.p9_manual.specs.State.{by_id};
 ghost use Rattle.p9_manual.specs.Step.{makes_entry, served, called, outcome};
@@ -19,7 +20,7 @@ use crate::ends::{exit_all, exit_thread};
 use crate::next::next_event;
 use crate::reserve::{Asked, Needs};
 use p9_sched::{Place, Sched};
-use p9_word::{ChanReq, Effect, IoReq, Reply, ThreadReq, Tid};
+use p9_word::{ChanReq, Effect, IoReq, LockReq, Reply, ThreadReq, Tid};
 use std::mem;
 
 /// Whether thread t runs in proc p.
@@ -74,6 +75,15 @@ fn chan_call(
     )
 }
 
+/// A request on locks, whichever thread makes it.
+fn lock_call(board: &mut Board, request: LockReq) -> Reply
+    ensures gives { (t : ℕ) → GivesAll (lock_call board.old.setup t request) board.old result board.new }
+    ensures stays { Stays board.old board.new }
+    ensures bare { IsBare result }
+{
+    p9_lock_calls::call(&mut board.locks, request)
+}
+
 /// A request of a thread on ioprocs.
 fn io_call(board: &mut Board, t: Tid, request: IoReq) -> Reply
     requires { IsRunning t board.old.sched }
@@ -122,6 +132,10 @@ fn served(board: &mut Board, t: Tid, asked: &mut Asked) -> Reply
             thread_call(board, t, request, spare)
         }
         Asked::Chan(request, spare) => chan_call(board, t, request, spare),
+        Asked::Lock(request) => {
+            let request = mem::replace(request, LockReq::IncRef { k: 0 });
+            lock_call(board, request)
+        }
         Asked::Io(request) => {
             let request = mem::replace(request, IoReq::IoProc { k: 0 });
             io_call(board, t, request)

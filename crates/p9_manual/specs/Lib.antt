@@ -11,11 +11,13 @@ pub mod FilesInHistory
 pub mod History
 pub mod Holds
 pub mod Ioprocs
+pub mod Locks
 pub mod Next
 pub mod Offers
 pub mod Places
 pub mod Programs
 pub mod ReadyEntries
+pub mod Refs
 pub mod Sound
 pub mod Standing
 pub mod State

@@ -7,12 +7,13 @@ use Rattle.p9_word.specs.declared.trail.Event.TheVariants.{Call, Next, IoTake, I
 use Rattle.p9_word.specs.declared.trail.Reply.{Reply}
 use Rattle.p9_word.specs.declared.trail.Reply.TheVariants.{Now, Waits, Ended, Begin, Turn, Idle, Over, Stuck, Stray, Took, Noted}
 use Rattle.p9_word.specs.declared.request.Request.{Request}
-use Rattle.p9_word.specs.declared.request.Request.TheVariants.{Thread as ThreadRequest, Chan as ChanRequest, Io as IoRequest}
+use Rattle.p9_word.specs.declared.request.Request.TheVariants.{Thread as ThreadRequest, Chan as ChanRequest, Lock as LockRequest, Io as IoRequest}
 use Rattle.p9_word.specs.declared.setup.Setup.{Setup}
 use Rattle.p9_manual.specs.Places.{runs_there}
 use Rattle.p9_manual.specs.State.{State, Outcome, by_id, same}
 use Rattle.p9_manual.specs.Threads.{thread_call}
 use Rattle.p9_manual.specs.Chans.{chan_call}
+use Rattle.p9_manual.specs.Locks.{lock_call}
 use Rattle.p9_manual.specs.Ioprocs.{io_call, io_event}
 use Rattle.p9_manual.specs.Next.{next_event}
 
@@ -20,6 +21,7 @@ use Rattle.p9_manual.specs.Next.{next_event}
 unfoldable pub served : Setup → ℕ → Request → State → Outcome
 served setup t (ThreadRequest r) s = thread_call setup t r s
 served setup t (ChanRequest r) s = chan_call setup t r s
+served setup t (LockRequest r) s = lock_call setup t r s
 served setup t (IoRequest r) s = io_call setup t r s
 
 -- a request is served where its thread runs in the proc that tells it

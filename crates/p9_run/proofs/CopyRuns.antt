@@ -39,7 +39,7 @@ no_history = record { legal = tt; files = history_none copy_asks }
 -- the setup of a copy is one that machines have so far
 pub copy_is_plain : IsPlain copy_setup
 copy_is_plain =
-    record { locks = refl; qlocks = refl; rwlocks = refl; rendezes = refl; refs = refl }
+    record { locks = refl; qlocks = refl; rwlocks = refl; rendezes = refl }
 
 front_none : (o : Option (List ℕ)) → IsFrontOf [] o
 front_none None = refl

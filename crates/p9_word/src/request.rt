@@ -124,6 +124,13 @@ pub enum ChanReq {
     },
 }
 
+/// A request on locks, each sort of them by its numbers from 1: `Bad` where it names one that isn't there. lock(2).
+#[derive(Drop)]
+pub enum LockReq {
+    /// Raises a Ref by 1: `Number` of its new value, or `Bad` where it has the greatest value that a u64 has.
+    IncRef { k: u32 },
+}
+
 /// A request on ioprocs: ioproc k serves file k, from 1. ioproc(2).
 #[derive(Drop)]
 pub enum IoReq {
@@ -142,6 +149,8 @@ pub enum Request {
     Thread(ThreadReq),
     /// On channels.
     Chan(ChanReq),
+    /// On locks.
+    Lock(LockReq),
     /// On ioprocs.
     Io(IoReq),
 }
@@ -337,6 +346,20 @@ impl Datum for ChanReq {
     }
 }
 
+impl Datum for LockReq {
+    fn copied(&self, _alloc: Global) -> Result<LockReq, NoMemory> {
+        match self {
+            LockReq::IncRef { k } => Ok(LockReq::IncRef { k: *k }),
+        }
+    }
+
+    fn is_same(&self, other: &LockReq) -> bool {
+        match (self, other) {
+            (LockReq::IncRef { k: a }, LockReq::IncRef { k: b }) => a == b,
+        }
+    }
+}
+
 impl Datum for IoReq {
     fn copied(&self, alloc: Global) -> Result<IoReq, NoMemory> {
         match self {
@@ -370,6 +393,7 @@ impl Datum for Request {
         match self {
             Request::Thread(request) => Ok(Request::Thread(request.copied(alloc)?)),
             Request::Chan(request) => Ok(Request::Chan(request.copied(alloc)?)),
+            Request::Lock(request) => Ok(Request::Lock(request.copied(alloc)?)),
             Request::Io(request) => Ok(Request::Io(request.copied(alloc)?)),
         }
     }
@@ -378,6 +402,7 @@ impl Datum for Request {
         match (self, other) {
             (Request::Thread(a), Request::Thread(b)) => a.is_same(b),
             (Request::Chan(a), Request::Chan(b)) => a.is_same(b),
+            (Request::Lock(a), Request::Lock(b)) => a.is_same(b),
             (Request::Io(a), Request::Io(b)) => a.is_same(b),
             _ => false,
         }

@@ -1,0 +1,16 @@
+ghost use Rattle.p9_sched.specs.Messages.{IsBare};
+ghost use Rattle.p9_lock_calls.specs.Serves.{ServesRequest};
+
+use crate::refs::raise;
+use p9_lock::Locks;
+use p9_word::{LockReq, Reply};
+
+/// A request on locks. It needs no memory.
+pub fn call(locks: &mut Locks, request: LockReq) -> Reply
+    ensures serves { ServesRequest request locks.old result locks.new }
+    ensures bare { IsBare result }
+{
+    match request {
+        LockReq::IncRef { k } => raise(locks, k),
+    }
+}
