@@ -6,6 +6,7 @@ use p9_word::LockReq;
 pub(crate) fn lock_request(name: &str, words: &mut Words) -> Result<Option<LockReq>, Fault> {
     match name {
         "incref" => Ok(Some(LockReq::IncRef { k: words.id()? })),
+        "decref" => Ok(Some(LockReq::DecRef { k: words.id()? })),
         _ => Ok(None),
     }
 }

@@ -75,4 +75,19 @@ impl Locks {
         self.refs[i] = value;
         Some(value)
     }
+
+    /// Lowers a Ref by 1, and gives its new value; `None` exactly where its value is 0, and then nothing changes.
+    pub fn decref(&mut self, x: u32) -> Option<u64>
+        requires { IsRef x self.old }
+        ensures none { IfNone result (value_in (by_id self.old.holds.refs x) ≡ 0) }
+        ensures stays { IfNone result (self.new ≡ self.old) }
+        ensures value { IfSome result (λ value. value + 1 ≡ value_in (by_id self.old.holds.refs x)) }
+        ensures locks { IfSome result (λ value. self.new ≡ with_ref x value self.old) }
+        ensures stands { IfSome result (λ value. Tracks (state_with_ref x value) self.old self.new) }
+    {
+        let i = x as usize - 1;
+        let value = self.refs[i].checked_sub(1)?;
+        self.refs[i] = value;
+        Some(value)
+    }
 }

@@ -41,3 +41,18 @@ fn the_greatest_value_stays(rt: HostRuntime) -> Result<(), Fail> {
     assert!(rt; raised(&mut locks, 1).is_none());
     Ok(())
 }
+
+#[test]
+fn a_ref_is_lowered_to_0(rt: HostRuntime) -> Result<(), Fail> {
+    let mut locks = refs_of(rt.alloc(), &[2, 9])?;
+    for wanted in [Some(1), Some(0), None, None] {
+        let told = if locks.refs() > 0 {
+            locks.decref(1)
+        } else {
+            None
+        };
+        assert_eq!(rt; told, wanted);
+    }
+    assert!(rt; raised(&mut locks, 2) == Some(10));
+    Ok(())
+}

@@ -1,7 +1,7 @@
 ghost use Rattle.p9_sched.specs.Messages.{IsBare};
 ghost use Rattle.p9_lock_calls.specs.Serves.{ServesRequest};
 
-use crate::refs::raise;
+use crate::refs::{lower, raise};
 use p9_lock::Locks;
 use p9_word::{LockReq, Reply};
 
@@ -12,5 +12,6 @@ pub fn call(locks: &mut Locks, request: LockReq) -> Reply
 {
     match request {
         LockReq::IncRef { k } => raise(locks, k),
+        LockReq::DecRef { k } => lower(locks, k),
     }
 }

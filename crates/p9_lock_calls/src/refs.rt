@@ -29,3 +29,17 @@ pub(crate) fn raise(locks: &mut Locks, k: u32) -> Reply
         None => Reply::Now(Answer::Bad),
     }
 }
+
+/// Lowers a Ref by 1.
+pub(crate) fn lower(locks: &mut Locks, k: u32) -> Reply
+    ensures serves { ServesRequest (ask.DecRef k) locks.old result locks.new }
+    ensures bare { IsBare result }
+{
+    if !is_ref(locks, k) {
+        return Reply::Now(Answer::Bad);
+    }
+    match locks.decref(k) {
+        Some(value) => Reply::Now(Answer::Number(value)),
+        None => Reply::Now(Answer::Bad),
+    }
+}

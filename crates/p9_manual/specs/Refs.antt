@@ -20,3 +20,8 @@ with_ref k value s = record s { holds = with_value k value s.holds }
 abbrev pub raise : ℕ → State → Option ℕ → Outcome
 raise k s None = bad s
 raise k s (Some value) = if value == greatest then bad s else now (Number (value + 1)) (with_ref k (value + 1) s)
+
+-- a Ref is lowered by 1, unless its value is 0
+abbrev pub lower : ℕ → State → Option ℕ → Outcome
+lower k s None = bad s
+lower k s (Some value) = if value == 0 then bad s else now (Number (value - 1)) (with_ref k (value - 1) s)

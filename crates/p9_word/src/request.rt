@@ -129,6 +129,8 @@ pub enum ChanReq {
 pub enum LockReq {
     /// Raises a Ref by 1: `Number` of its new value, or `Bad` where it has the greatest value that a u64 has.
     IncRef { k: u32 },
+    /// Lowers a Ref by 1: `Number` of its new value, or `Bad` where its value is 0.
+    DecRef { k: u32 },
 }
 
 /// A request on ioprocs: ioproc k serves file k, from 1. ioproc(2).
@@ -350,12 +352,15 @@ impl Datum for LockReq {
     fn copied(&self, _alloc: Global) -> Result<LockReq, NoMemory> {
         match self {
             LockReq::IncRef { k } => Ok(LockReq::IncRef { k: *k }),
+            LockReq::DecRef { k } => Ok(LockReq::DecRef { k: *k }),
         }
     }
 
     fn is_same(&self, other: &LockReq) -> bool {
         match (self, other) {
             (LockReq::IncRef { k: a }, LockReq::IncRef { k: b }) => a == b,
+            (LockReq::DecRef { k: a }, LockReq::DecRef { k: b }) => a == b,
+            _ => false,
         }
     }
 }
