@@ -1,1 +1,7 @@
-pub mod Values
+pub mod Firsts
+pub mod Held
+pub mod Places
+pub mod Queue
+pub mod Released
+pub mod RwHolds
+pub mod Sleepers

@@ -1,3 +1,6 @@
+pub mod Examples
 pub mod Kept
 pub mod Locking
+pub mod Shown
 pub mod Stands
+pub mod Waiting

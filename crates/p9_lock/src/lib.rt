@@ -1,11 +1,16 @@
-//! The locks of a machine: who holds each, and what the Refs have. lock(2).
-//!
-//! So far no request takes a lock, so nobody holds any: only the Refs change.
+//! The locks, the Rendezes and the tags of a machine: who holds them, and who waits there. lock(2), rendezvous(2).
 #![tactic(auto)]
 
+pub mod examples;
+mod holders;
 mod locks;
+mod meet;
+mod readers;
+mod waits;
 
 pub use locks::Locks;
+pub use meet::Meet;
+pub use p9_manual::{LockWait, Sort};
 
 #[cfg(test)]
 mod tests;

@@ -1,5 +1,6 @@
 pub mod Alt
 pub mod Chans
+pub mod Claims
 pub mod Close
 pub mod Commit
 pub mod Create
@@ -16,8 +17,11 @@ pub mod Next
 pub mod Offers
 pub mod Places
 pub mod Programs
+pub mod Queues
 pub mod ReadyEntries
 pub mod Refs
+pub mod Rendez
+pub mod Rendezvous
 pub mod Sound
 pub mod Standing
 pub mod State
@@ -25,4 +29,5 @@ pub mod Step
 pub mod Stuck
 pub mod Threads
 pub mod Told
+pub mod Unlocks
 pub mod Draws
