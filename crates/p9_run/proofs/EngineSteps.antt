@@ -1,30 +1,43 @@
 -- What one event of a machine comes to, by the laws.
-use Rattle.std.proofs.Common.{◌≡◌, ℕ, zero, suc, ◌-◌, ◌<◌, Bool, true, false, List, [], ◌∷◌, ◌++◌, Option, Some, length, slice_get, refl, sym, ◌∙◌, subst, arith}
-use Rattle.std.specs.Prelude.{if◌then◌else◌, nat_lt}
-use Rattle.std.specs.Prelude.{None}
-use Rattle.p9_word.specs.declared.answer.Answer.{Answer}
+use Rattle.std.proofs.Common.{◌≡◌, ℕ, zero, suc, ◌-◌, ◌<◌, Bool, true, false, List, [], ◌∷◌, ◌++◌, Option, Some, length, slice_get, refl, sym, ◌∙◌, ap, subst, arith}
+use Rattle.std.specs.Prelude.{if◌then◌else◌, nat_lt, None, Result, Ok, Err, IfOk}
 use Rattle.p9_word.specs.declared.io_call.IoCall.{IoCall}
 use Rattle.p9_word.specs.declared.io_call.Effect.{Effect}
 use Rattle.p9_word.specs.declared.request.Request.{Request}
+use Rattle.p9_word.specs.declared.memory.NoMemory.{NoMemory}
 use Rattle.p9_word.specs.declared.setup.Setup.{Setup}
 use Rattle.p9_word.specs.declared.trail.Entry.{Entry}
 use Rattle.p9_word.specs.declared.trail.Event.TheVariants.{Call, IoTake, IoDid}
 use Rattle.p9_word.specs.declared.trail.Reply.{Reply}
-use Rattle.p9_word.specs.declared.trail.Reply.TheVariants.{Now, Took, Noted}
+use Rattle.p9_word.specs.declared.trail.Reply.TheVariants.{Took, Noted, Stray}
 use Rattle.p9_word.specs.declared.trail.Seat.TheVariants.{Proc, Io}
 use Rattle.p9_manual.specs.declared.state.Ioproc.{Ioproc}
 use Rattle.p9_manual.specs.History.{with_entry, IsLegal}
-use Rattle.p9_manual.specs.State.{changed}
+use Rattle.p9_manual.specs.Places.{runs_there}
+use Rattle.p9_manual.specs.Programs.{life}
+use Rattle.p9_manual.specs.State.{State, by_id, changed}
+use Rattle.p9_manual.specs.Step.{step, outcome, called, makes_entry}
 use Rattle.p9_laws.specs.IoReplies.{ioproc_after, IsBegun, IsPosted, TakenBegun, TakeReplies, IsTakeReply, FittingNoted}
 use Rattle.p9_manual.specs.History.{state_after}
-use Rattle.p9_laws.specs.RunReplies.{reply_at, RunsAfter, AnsweredRunOn}
+use Rattle.p9_laws.specs.RunReplies.{reply_at, IsLiving, RunningLive}
 use Rattle.p9_io.specs.Calls.{begun_call}
 use Rattle.p9_machine.specs.Shown.{rooms_after}
 use Rattle.p9_run.specs.Takes.{MayTell, noted}
 
-pub runs_on : (setup setup' : Setup) (entries after : List Entry) (p t : ℕ) (request : Request) (a : Answer) → AnsweredRunOn setup entries → IsLegal setup entries → RunsAfter setup entries p t → setup' ≡ setup → Now a ≡ reply_at setup entries (Proc p) (Call t request) → after ≡ with_entry entries (Proc p) (Call t request) (Now a) → RunsAfter setup' after p t
-runs_on setup setup' entries after p t request a law legal runs setup_is is after_is =
-    rw (setup_is, after_is) (subst (λ (r : Reply). RunsAfter setup (with_entry entries (Proc p) (Call t request) r) p t) (sym is) (law p t request a legal runs (sym is)))
+stray_call : (setup : Setup) (s : State) (p t : ℕ) (request : Request) → runs_there p (by_id s.threads t) ≡ false → (step setup (Proc p) (Call t request) s).reply ≡ Stray
+unfolding step outcome called
+stray_call setup s p t request stays = rw stays refl
+
+live_by : (runs : Bool) (setup : Setup) (entries : List Entry) (p t : ℕ) (request : Request) (r : Reply) → runs_there p (by_id (state_after setup entries).threads t) ≡ runs → RunningLive setup entries → IsLegal setup entries → r ≡ reply_at setup entries (Proc p) (Call t request) → makes_entry r ≡ true → IsLiving (life t entries)
+live_by true setup entries p t request r runs law legal is makes = law p t legal runs
+live_by false setup entries p t request r runs law legal is makes =
+    let stray : r ≡ Stray = is ∙ stray_call setup (state_after setup entries) p t request runs in
+    absurd (cc (ap makes_entry stray, makes))
+
+-- a thread whose call makes an entry lives
+pub called_lives : (setup : Setup) (entries : List Entry) (p t : ℕ) (request : Request) (result : Result Reply NoMemory) → RunningLive setup entries → IsLegal setup entries → IfOk result (λ r. r ≡ reply_at setup entries (Proc p) (Call t request)) → IfOk result (λ r. makes_entry r ≡ true → IsLiving (life t entries))
+called_lives setup entries p t request (Ok r) law legal is = live_by (runs_there p (by_id (state_after setup entries).threads t)) setup entries p t request r refl law legal is
+called_lives setup entries p t request (Err wanted) law legal is = tt
 
 pub taken_begun : (setup setup' : Setup) (entries after : List Entry) (k : ℕ) (call : IoCall) → TakenBegun setup entries → setup' ≡ setup → Took call ≡ reply_at setup entries (Io k) IoTake → after ≡ with_entry entries (Io k) IoTake (Took call) → IsBegun call (ioproc_after setup' after k)
 taken_begun setup setup' entries after k call law setup_is is after_is =

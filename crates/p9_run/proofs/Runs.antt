@@ -40,8 +40,8 @@ effects_none : (k : ℕ) → effects_at k [] ≡ []
 unfolding effects_at
 effects_none k = refl
 
-pub between_none : {B : Type 0} (asks : Asks) (plan : B → List Answer → Request) (stands : B → List Answer → Type 0) (bodies : List (Option B)) → Between asks plan stands [] bodies
-between_none asks plan stands bodies = record { runs = runs_none asks; each = λ u. rw life_none tt }
+pub between_none : {B : Type 0} (asks : Asks) (plan : B → List Answer → Request) (stands : B → List Answer → Type 0) (bodies : List (Option B)) (requests : List (Option Request)) → Between asks plan stands [] bodies requests
+between_none asks plan stands bodies requests = record { runs = runs_none asks; each = λ u. rw life_none tt }
 
 serves_none : {D : Type 0} (serves : D → IoCall → Effect → D → Type 0) (k : ℕ) (d : D) → Serves serves k [] d d
 serves_none serves k d = record { is_done = rw (calls_none, effects_none) refl; reached = rw calls_none refl }

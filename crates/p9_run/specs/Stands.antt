@@ -4,15 +4,21 @@ use Rattle.p9_word.specs.declared.answer.Answer.{Answer}
 use Rattle.p9_word.specs.declared.request.Request.{Request}
 use Rattle.p9_word.specs.declared.trail.Entry.{Entry}
 use Rattle.p9_manual.specs.Programs.{Life, Unborn, Lives, Dead, life, Asks, RunsPrograms}
-use Rattle.p9_run.specs.declared.proc_turn.Running.{Running}
+use Rattle.p9_run.specs.declared.bodies.Bodies.{Bodies}
+use Rattle.p9_run.specs.declared.bodies.Running.{Running}
 use Rattle.p9_run.specs.BodiesByThread.{body_of}
 
--- a thread's body stands for the answers that the history gives it
-abbrev pub Stands : {B : Type 0} → Asks → (B → List Answer → Request) → (B → List Answer → Type 0) → Life → Option B → Type 0
-Stands asks plan stands (Lives program arg answers) (Some b) = (plan b ≡ asks program arg) × stands b answers
-Stands asks plan stands (Lives program arg answers) None = ⊥
-Stands asks plan stands Unborn o = Unit {0}
-Stands asks plan stands Dead o = Unit {0}
+-- a request that is to be made next, if there is one, is this one
+abbrev pub MayAsk : Option Request → Request → Type 0
+MayAsk None asked = Unit {0}
+MayAsk (Some request) asked = request ≡ asked
+
+-- a thread's body stands for the answers that the history gives it, and what it is to ask next is what its program asks
+abbrev pub Stands : {B : Type 0} → Asks → (B → List Answer → Request) → (B → List Answer → Type 0) → Life → Option B → Option Request → Type 0
+Stands asks plan stands (Lives program arg answers) (Some b) next = (plan b ≡ asks program arg) × stands b answers × MayAsk next (asks program arg answers)
+Stands asks plan stands (Lives program arg answers) None next = ⊥
+Stands asks plan stands Unborn o next = Unit {0}
+Stands asks plan stands Dead o next = Unit {0}
 
 -- a body stands for all of these answers but the last
 pub record Pending {B : Type 0} (asked : List Answer → Request) (plan : B → List Answer → Request) (stands : B → List Answer → Type 0) (answers : List Answer) (last : Answer) (b : B) : Type 0 where
@@ -27,17 +33,22 @@ IsReady asks plan stands (Lives program arg answers) last b = Pending (asks prog
 IsReady asks plan stands Unborn last b = ⊥
 IsReady asks plan stands Dead last b = ⊥
 
--- between two turns: each living thread's body is here
-pub record Between {B : Type 0} (asks : Asks) (plan : B → List Answer → Request) (stands : B → List Answer → Type 0) (history : List Entry) (bodies : List (Option B)) : Type 0 where
+-- between two events: each living thread's body is here, with the request that it is to make next, if it runs
+pub record Between {B : Type 0} (asks : Asks) (plan : B → List Answer → Request) (stands : B → List Answer → Type 0) (history : List Entry) (bodies : List (Option B)) (requests : List (Option Request)) : Type 0 where
   pub runs : RunsPrograms asks history
-  pub each : (u : ℕ) → Stands asks plan stands (life u history) (body_of bodies u)
+  pub each : (u : ℕ) → Stands asks plan stands (life u history) (body_of bodies u) (body_of requests u)
 
--- in a turn of thread t: its body is out, and the others are here
-pub record InTurn {B : Type 0} (asks : Asks) (plan : B → List Answer → Request) (stands : B → List Answer → Type 0) (history : List Entry) (bodies : List (Option B)) (t : ℕ) (last : Answer) (b : B) : Type 0 where
+-- thread t is answered: its body is out, and the others are here
+pub record InTurn {B : Type 0} (asks : Asks) (plan : B → List Answer → Request) (stands : B → List Answer → Type 0) (history : List Entry) (bodies : List (Option B)) (requests : List (Option Request)) (t : ℕ) (last : Answer) (b : B) : Type 0 where
   pub runs : RunsPrograms asks history
-  pub others : (u : ℕ) → u ≢ t → Stands asks plan stands (life u history) (body_of bodies u)
+  pub others : (u : ℕ) → u ≢ t → Stands asks plan stands (life u history) (body_of bodies u) (body_of requests u)
   pub ready : IsReady asks plan stands (life t history) last b
 
+-- the same of the bodies of a run
+abbrev pub IsBetween : {B : Type 0} → Asks → (B → List Answer → Request) → (B → List Answer → Type 0) → List Entry → Bodies B → Type 0
+IsBetween asks plan stands history kept = Between asks plan stands history kept.by_thread.by_thread.items kept.requests.by_thread.items
+
 -- the same of a thread that is taken out for its turn
-abbrev pub HasTurn : {B : Type 0} → Asks → (B → List Answer → Request) → (B → List Answer → Type 0) → List Entry → List (Option B) → Running B → Type 0
-HasTurn asks plan stands history bodies thread = InTurn asks plan stands history bodies thread.tid thread.last thread.body
+abbrev pub HasTurn : {B : Type 0} → Asks → (B → List Answer → Request) → (B → List Answer → Type 0) → List Entry → Bodies B → Running B → Type 0
+HasTurn asks plan stands history kept thread =
+    InTurn asks plan stands history kept.by_thread.by_thread.items kept.requests.by_thread.items thread.tid thread.last thread.body

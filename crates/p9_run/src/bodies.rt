@@ -1,56 +1,54 @@
-ghost use Rattle.std.specs.Prelude.{◌≡◌, ◌<◌, ◌==◌, ℕ, length, OnOk, Some, None, if◌then◌else◌};
-ghost use Rattle.p9_run.specs.BodiesByThread.{body_of};
+ghost use Rattle.std.specs.Prelude.{List, OnOk};
+ghost use Rattle.p9_word.specs.declared.trail.Entry.{Entry};
+ghost use Rattle.p9_manual.specs.Programs.{Asks};
+ghost use Rattle.p9_run.specs.Stands.{IsBetween, HasTurn};
 
-use p9_word::{NoMemory, Tid};
+use crate::numbered::Numbered;
+use p9_word::{Answer, Body, NoMemory, Request, Tid};
 use std::alloc::Global;
-use std::mem;
 
-/// The bodies of the threads that don't run now, by the threads' numbers.
+/// A thread in its turn: its body, and the answer that the body hasn't had yet.
 #[derive(Drop)]
-pub(crate) struct Bodies<B> {
-    by_thread: Vec<Option<B>>,
+pub(crate) struct Running<B> {
+    pub(crate) tid: Tid,
+    pub(crate) body: B,
+    pub(crate) last: Answer,
 }
 
-impl<B: Drop> Bodies<B> {
+/// The bodies of the threads, and what the threads that run do next.
+#[derive(Drop)]
+pub(crate) struct Bodies<B> {
+    /// The bodies, by the threads' numbers.
+    pub(crate) by_thread: Numbered<B>,
+    /// The requests that haven't been made yet, by the threads' numbers.
+    pub(crate) requests: Numbered<Request>,
+    /// Which thread runs in a proc, by the procs' numbers.
+    pub(crate) running: Numbered<Tid>,
+}
+
+impl<B: Body + Drop> Bodies<B> {
     /// No bodies. It takes no memory.
-    pub(crate) fn new(alloc: Global) -> Bodies<B>
-        ensures { (u : ℕ) → body_of result.by_thread.items u ≡ None }
-    {
+    pub(crate) fn new(alloc: Global) -> Bodies<B> {
         Bodies {
-            by_thread: Vec::new(alloc),
+            by_thread: Numbered::new(alloc),
+            requests: Numbered::new(alloc),
+            running: Numbered::new(alloc),
         }
     }
 
-    /// Takes the memory for the body of thread `t`. All bodies stay.
-    pub(crate) fn reserve(&mut self, t: Tid) -> Result<(), NoMemory>
-        ensures room { OnOk result (t < length self.new.by_thread.items) }
-        ensures bodies { (u : ℕ) → body_of self.new.by_thread.items u ≡ body_of self.old.by_thread.items u }
+    /// Gives a thread its answer, and keeps the request that it makes next.
+    pub(crate) fn answer(&mut self, thread: Running<B>) -> Result<(), NoMemory>
+        ensures { OnOk result ((asks : Asks) (history : List Entry)
+            → HasTurn asks B.plan B.stands_for history self.old thread → IsBetween asks B.plan B.stands_for history self.new) }
     {
-        while self.by_thread.len() <= t as usize {
-            self.by_thread.push(None)?;
-        }
+        let Running {
+            tid,
+            mut body,
+            last,
+        } = thread;
+        let request = body.next(last)?;
+        self.by_thread.put(tid, body)?;
+        self.requests.put(tid, request)?;
         Ok(())
-    }
-
-    /// Puts the body of thread `t` back. The others stay.
-    pub(crate) fn put(&mut self, t: Tid, body: B)
-        requires { t < length self.old.by_thread.items }
-        ensures bodies { (u : ℕ) → body_of self.new.by_thread.items u ≡ (if u == t then Some body else body_of self.old.by_thread.items u) }
-    {
-        self.by_thread[t as usize] = Some(body);
-    }
-
-    /// Takes the body of thread `t` out, if it is here. The others stay.
-    pub(crate) fn take(&mut self, t: Tid) -> Option<B>
-        ensures body { result ≡ body_of self.old.by_thread.items t }
-        ensures others { (u : ℕ) → body_of self.new.by_thread.items u ≡ (if u == t then None else body_of self.old.by_thread.items u) }
-        ensures room { length self.new.by_thread.items ≡ length self.old.by_thread.items }
-    {
-        let i = t as usize;
-        if i < self.by_thread.len() {
-            mem::take(&mut self.by_thread[i])
-        } else {
-            None
-        }
     }
 }

@@ -1,15 +1,14 @@
-ghost use Rattle.std.specs.Prelude.{◌≡◌, ◌++◌, ◌∷◌, [], List, Ok, IfOk, OnErr};
+ghost use Rattle.std.specs.Prelude.{◌≡◌, ◌++◌, ◌∷◌, [], List, IfOk, OnErr, true};
 ghost use Rattle.p9_word.specs.Setup.{IsValid};
-ghost use Rattle.p9_word.specs.declared.answer.Answer.{Answer};
 ghost use Rattle.p9_word.specs.declared.setup.Setup.{Setup};
 ghost use Rattle.p9_word.specs.declared.trail.Entry.{Entry};
 ghost use Rattle.p9_word.specs.declared.trail.Event.TheVariants.{Next, Call};
-ghost use Rattle.p9_word.specs.declared.trail.Reply.TheVariants.{Now};
 ghost use Rattle.p9_word.specs.declared.trail.Seat.TheVariants.{Proc};
 ghost use Rattle.p9_manual.specs.History.{with_entry};
 ghost use Rattle.p9_laws.specs.IoReplies.{ioproc_after};
 ghost use Rattle.p9_manual.specs.Programs.{life};
-ghost use Rattle.p9_laws.specs.RunReplies.{reply_at, RunsAfter, IsCallReply, IsGiven, IsNextReply};
+ghost use Rattle.p9_manual.specs.Step.{makes_entry};
+ghost use Rattle.p9_laws.specs.RunReplies.{reply_at, IsLiving, IsNextReply};
 ghost use Rattle.p9_run.specs.Over.{StaysOver};
 ghost use Rattle.p9_run.specs.Takes.{TakesAt, MayTell, noted};
 
@@ -32,17 +31,14 @@ pub(crate) trait Engine {
         ensures entries { IfOk result (λ r. entries self.new ≡ with_entry (entries self.old) (Proc p) Next r) }
         ensures refused { OnErr result (entries self.new ≡ entries self.old) }
         ensures may { IfOk result (λ r. IsNextReply (λ t. life t (entries self.old)) (setup self.old).programs r) }
-        ensures runs { IfOk result (λ r. IsGiven (RunsAfter (setup self.new) (entries self.new) p) r) }
         ensures over { StaysOver (reply_at (setup self.old) (entries self.old)) (reply_at (setup self.new) (entries self.new)) };
 
-    /// Thread `t`, which runs in proc `p`, makes a request.
+    /// Thread `t` makes a request in proc `p`. Nothing happens where it doesn't run there.
     fn call(&mut self, p: u32, t: Tid, request: Request) -> Result<Reply, NoMemory>
-        requires runs { RunsAfter (setup self.old) (entries self.old) p t }
         ensures setup { setup self.new ≡ setup self.old }
         ensures entries { IfOk result (λ r. entries self.new ≡ with_entry (entries self.old) (Proc p) (Call t request) r) }
         ensures refused { OnErr result (entries self.new ≡ entries self.old) }
-        ensures may { IfOk result IsCallReply }
-        ensures goes_on { (a : Answer) → result ≡ Ok (Now a) → RunsAfter (setup self.new) (entries self.new) p t }
+        ensures living { IfOk result (λ r. makes_entry r ≡ true → IsLiving (life t (entries self.old))) }
         ensures over { StaysOver (reply_at (setup self.old) (entries self.old)) (reply_at (setup self.new) (entries self.new)) };
 
     /// Ioproc `k` asks for its call, and gets room for what a read gives. It is `None` where no call is

@@ -11,6 +11,7 @@ mod engine;
 mod file_text;
 mod io_turn;
 mod machine_engine;
+mod numbered;
 mod proc_turn;
 mod program;
 mod reader;

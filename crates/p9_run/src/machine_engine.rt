@@ -6,8 +6,8 @@ ghost use Rattle.p9_machine.specs.Shown.{rooms_after};
 
 use crate::engine::Engine;
 use p9_laws::running::{
-    answered_threads_run_on, fitting_effects_are_noted, over_stays_over, posted_calls_are_taken,
-    running_calls_are_served, taken_calls_are_begun, turns_go_to_living_threads, turns_make_run,
+    fitting_effects_are_noted, over_stays_over, posted_calls_are_taken, running_threads_live,
+    taken_calls_are_begun, turns_go_to_living_threads,
 };
 use p9_machine::Machine;
 use p9_word::{Effect, Event, IoCall, NoMemory, Reply, Request, Room, Seat, Tid};
@@ -37,13 +37,11 @@ impl Engine for Machine {
 
     fn next(&mut self, p: u32) -> Result<Reply, NoMemory> {
         turns_go_to_living_threads();
-        turns_make_run();
         one_event(self, Seat::Proc(p), Event::Next)
     }
 
     fn call(&mut self, p: u32, t: Tid, request: Request) -> Result<Reply, NoMemory> {
-        running_calls_are_served();
-        answered_threads_run_on();
+        running_threads_live();
         one_event(self, Seat::Proc(p), Event::Call(t, request))
     }
 

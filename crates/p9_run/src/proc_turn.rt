@@ -1,105 +1,44 @@
-ghost use Rattle.std.specs.Prelude.{◌≡◌, ◌<◌, length, OnOk, OnErr, Ok, true};
+ghost use Rattle.std.specs.Prelude.{◌≡◌, OnOk, OnErr, Ok, true};
 ghost use Rattle.p9_word.specs.declared.trail.Seat.TheVariants.{Proc};
 ghost use Rattle.p9_word.specs.declared.trail.Event.TheVariants.{Next};
 ghost use Rattle.p9_word.specs.declared.trail.Reply.TheVariants.{Over};
-ghost use Rattle.p9_manual.specs.Programs.{RunsPrograms};
+ghost use Rattle.p9_manual.specs.Programs.{Asks, RunsPrograms};
 ghost use Rattle.p9_word.specs.Setup.{IsValid};
-ghost use Rattle.p9_laws.specs.RunReplies.{reply_at, RunsAfter};
+ghost use Rattle.p9_laws.specs.RunReplies.{reply_at};
 ghost use Rattle.p9_run.specs.Over.{StaysOver};
-ghost use Rattle.p9_run.specs.Stands.{Between, HasTurn};
+ghost use Rattle.p9_run.specs.Stands.{IsBetween};
 ghost use Rattle.p9_run.specs.Untouched.{TouchesNoFile};
+ghost use Rattle.p9_run.specs.declared.proc_turn.Chosen.TheVariants.{Over as ProcOver};
 
-use crate::bodies::Bodies;
+use crate::bodies::{Bodies, Running};
 use crate::engine::Engine;
 use p9_word::{Answer, Body, NoMemory, Programs, Reply, Tid};
-use std::sync::Wait;
 
-/// A thread in its turn: its body, and the answer that the body hasn't had yet.
-#[derive(Drop)]
-struct Running<B> {
-    tid: Tid,
-    body: B,
-    last: Answer,
+/// What a proc does next.
+#[derive(Clone, Copy)]
+enum Chosen {
+    /// It runs this thread.
+    Thread(Tid),
+    /// None of its threads is ready.
+    Idle,
+    /// It is over.
+    Over,
 }
 
-/// Runs a thread of proc `p` until it waits or has ended. While it runs its body isn't among the bodies.
-#[tactic(auto, using(crate::proofs::Untouched::touches_with, crate::proofs::Untouched::touches_trans, crate::proofs::Untouched::touches_none))]
-fn run_thread<R: Wait, E: Engine, P: Programs>(
-    rt: &R,
+/// Asks which thread is to run in proc `p`, and gives that thread its answer.
+fn choose_thread<E: Engine, P: Programs>(
     engine: &mut E,
     programs: &P,
     bodies: &mut Bodies<P::B>,
     p: u32,
-    thread: Running<P::B>,
-) -> Result<(), NoMemory>
-    requires turn { HasTurn (P.asks programs.now) P.B.plan P.B.stands_for (E.entries engine.old) bodies.old.by_thread.items thread }
-    requires runs { RunsAfter (E.setup engine.old) (E.entries engine.old) p thread.tid }
-    requires room { thread.tid < length bodies.old.by_thread.items }
-    ensures setup { E.setup engine.new ≡ E.setup engine.old }
-    ensures ok { OnOk result (Between (P.asks programs.now) P.B.plan P.B.stands_for (E.entries engine.new) bodies.new.by_thread.items) }
-    ensures refused { OnErr result (RunsPrograms (P.asks programs.now) (E.entries engine.new)) }
-    ensures over { StaysOver (reply_at (E.setup engine.old) (E.entries engine.old)) (reply_at (E.setup engine.new) (E.entries engine.new)) }
-    ensures files { TouchesNoFile (E.entries engine.old) (E.entries engine.new) }
-{
-    let Running {
-        tid,
-        mut body,
-        mut last,
-    } = thread;
-    for _ in rt.forever() {
-        let request = body.next(last)?;
-        match engine.call(p, tid, request)? {
-            Reply::Now(answer) => last = answer,
-            Reply::Waits => {
-                bodies.put(tid, body);
-                return Ok(());
-            }
-            Reply::Ended => return Ok(()),
-            _ => unreachable!(),
-        }
-    }
-    unreachable!()
-}
-
-/// The same for a thread that runs for the first time, for which no memory was taken yet.
-#[tactic(auto, using(crate::proofs::Untouched::touches_with, crate::proofs::Untouched::touches_trans, crate::proofs::Untouched::touches_none))]
-fn begin_thread<R: Wait, E: Engine, P: Programs>(
-    rt: &R,
-    engine: &mut E,
-    programs: &P,
-    bodies: &mut Bodies<P::B>,
-    p: u32,
-    thread: Running<P::B>,
-) -> Result<(), NoMemory>
-    requires turn { HasTurn (P.asks programs.now) P.B.plan P.B.stands_for (E.entries engine.old) bodies.old.by_thread.items thread }
-    requires runs { RunsAfter (E.setup engine.old) (E.entries engine.old) p thread.tid }
-    ensures setup { E.setup engine.new ≡ E.setup engine.old }
-    ensures ok { OnOk result (Between (P.asks programs.now) P.B.plan P.B.stands_for (E.entries engine.new) bodies.new.by_thread.items) }
-    ensures refused { OnErr result (RunsPrograms (P.asks programs.now) (E.entries engine.new)) }
-    ensures over { StaysOver (reply_at (E.setup engine.old) (E.entries engine.old)) (reply_at (E.setup engine.new) (E.entries engine.new)) }
-    ensures files { TouchesNoFile (E.entries engine.old) (E.entries engine.new) }
-{
-    bodies.reserve(thread.tid)?;
-    run_thread(rt, engine, programs, bodies, p, thread)
-}
-
-/// One turn of proc `p`: asks which thread is to run, and runs it until it waits or has ended. It tells
-/// whether the proc is over.
-#[tactic(auto, using(crate::proofs::Untouched::touches_with, crate::proofs::Untouched::touches_trans, crate::proofs::Untouched::touches_none))]
-pub(crate) fn proc_turn<R: Wait, E: Engine, P: Programs>(
-    rt: &R,
-    engine: &mut E,
-    programs: &P,
-    bodies: &mut Bodies<P::B>,
-    p: u32,
-) -> Result<bool, NoMemory>
+) -> Result<Chosen, NoMemory>
     requires valid { IsValid (E.setup engine.old) }
     requires programs { P.programs programs.now ≡ (E.setup engine.old).programs }
-    requires between { Between (P.asks programs.now) P.B.plan P.B.stands_for (E.entries engine.old) bodies.old.by_thread.items }
+    requires between { IsBetween (P.asks programs.now) P.B.plan P.B.stands_for (E.entries engine.old) bodies.old }
     ensures setup { E.setup engine.new ≡ E.setup engine.old }
-    ensures ok { OnOk result (Between (P.asks programs.now) P.B.plan P.B.stands_for (E.entries engine.new) bodies.new.by_thread.items) }
+    ensures ok { OnOk result (IsBetween (P.asks programs.now) P.B.plan P.B.stands_for (E.entries engine.new) bodies.new) }
     ensures refused { OnErr result (RunsPrograms (P.asks programs.now) (E.entries engine.new)) }
-    ensures is_over { result ≡ Ok true → reply_at (E.setup engine.new) (E.entries engine.new) (Proc p) Next ≡ Over }
+    ensures is_over { result ≡ Ok ProcOver → reply_at (E.setup engine.new) (E.entries engine.new) (Proc p) Next ≡ Over }
     ensures over { StaysOver (reply_at (E.setup engine.old) (E.entries engine.old)) (reply_at (E.setup engine.new) (E.entries engine.new)) }
     ensures files { TouchesNoFile (E.entries engine.old) (E.entries engine.new) }
 {
@@ -107,17 +46,87 @@ pub(crate) fn proc_turn<R: Wait, E: Engine, P: Programs>(
         Reply::Begin(tid, program, arg) => {
             let body = programs.start(program, arg)?;
             let last = Answer::Done;
-            begin_thread(rt, engine, programs, bodies, p, Running { tid, body, last })?;
-            Ok(false)
+            bodies.answer(Running { tid, body, last })?;
+            Ok(Chosen::Thread(tid))
         }
         Reply::Turn(tid, last) => {
-            let Some(body) = bodies.take(tid) else {
+            let Some(body) = bodies.by_thread.take(tid) else {
                 unreachable!()
             };
-            run_thread(rt, engine, programs, bodies, p, Running { tid, body, last })?;
+            bodies.answer(Running { tid, body, last })?;
+            Ok(Chosen::Thread(tid))
+        }
+        Reply::Over => Ok(Chosen::Over),
+        _ => Ok(Chosen::Idle),
+    }
+}
+
+/// Makes the request of thread `tid`, which runs in proc `p`. It tells whether the thread runs on: it doesn't where it
+/// waits or has ended, nor where another proc has ended all threads.
+fn make_request<E: Engine, B: Body + Drop>(
+    engine: &mut E,
+    bodies: &mut Bodies<B>,
+    p: u32,
+    tid: Tid,
+) -> Result<bool, NoMemory>
+    requires between { (asks : Asks) × IsBetween asks B.plan B.stands_for (E.entries engine.old) bodies.old }
+    ensures setup { E.setup engine.new ≡ E.setup engine.old }
+    ensures ok { (asks : Asks) → IsBetween asks B.plan B.stands_for (E.entries engine.old) bodies.old
+        → OnOk result (IsBetween asks B.plan B.stands_for (E.entries engine.new) bodies.new) }
+    ensures refused { (asks : Asks) → IsBetween asks B.plan B.stands_for (E.entries engine.old) bodies.old
+        → OnErr result (RunsPrograms asks (E.entries engine.new)) }
+    ensures over { StaysOver (reply_at (E.setup engine.old) (E.entries engine.old)) (reply_at (E.setup engine.new) (E.entries engine.new)) }
+    ensures files { TouchesNoFile (E.entries engine.old) (E.entries engine.new) }
+{
+    let Some(request) = bodies.requests.take(tid) else {
+        return Ok(false);
+    };
+    match engine.call(p, tid, request)? {
+        Reply::Now(last) => {
+            let Some(body) = bodies.by_thread.take(tid) else {
+                unreachable!()
+            };
+            bodies.answer(Running { tid, body, last })?;
+            Ok(true)
+        }
+        Reply::Ended => {
+            bodies.by_thread.take(tid);
             Ok(false)
         }
-        Reply::Over => Ok(true),
         _ => Ok(false),
     }
+}
+
+/// One turn of proc `p`: its thread makes one request. Where none runs it is asked first which one is to run. It tells
+/// whether the proc is over.
+///
+/// A thread that runs on makes its next request in the next turn, after the turns of all others.
+pub(crate) fn proc_turn<E: Engine, P: Programs>(
+    engine: &mut E,
+    programs: &P,
+    bodies: &mut Bodies<P::B>,
+    p: u32,
+) -> Result<bool, NoMemory>
+    requires valid { IsValid (E.setup engine.old) }
+    requires programs { P.programs programs.now ≡ (E.setup engine.old).programs }
+    requires between { IsBetween (P.asks programs.now) P.B.plan P.B.stands_for (E.entries engine.old) bodies.old }
+    ensures setup { E.setup engine.new ≡ E.setup engine.old }
+    ensures ok { OnOk result (IsBetween (P.asks programs.now) P.B.plan P.B.stands_for (E.entries engine.new) bodies.new) }
+    ensures refused { OnErr result (RunsPrograms (P.asks programs.now) (E.entries engine.new)) }
+    ensures is_over { result ≡ Ok true → reply_at (E.setup engine.new) (E.entries engine.new) (Proc p) Next ≡ Over }
+    ensures over { StaysOver (reply_at (E.setup engine.old) (E.entries engine.old)) (reply_at (E.setup engine.new) (E.entries engine.new)) }
+    ensures files { TouchesNoFile (E.entries engine.old) (E.entries engine.new) }
+{
+    let tid = match bodies.running.take(p) {
+        Some(tid) => tid,
+        None => match choose_thread(engine, programs, bodies, p)? {
+            Chosen::Thread(tid) => tid,
+            Chosen::Idle => return Ok(false),
+            Chosen::Over => return Ok(true),
+        },
+    };
+    if make_request(engine, bodies, p, tid)? {
+        bodies.running.put(p, tid)?;
+    }
+    Ok(false)
 }

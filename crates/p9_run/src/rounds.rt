@@ -4,7 +4,7 @@ ghost use Rattle.p9_word.specs.Setup.{IsValid};
 ghost use Rattle.p9_laws.specs.RunReplies.{reply_at};
 ghost use Rattle.p9_run.specs.Over.{AllOver};
 ghost use Rattle.p9_run.specs.Services.{AllServeOn};
-ghost use Rattle.p9_run.specs.Stands.{Between};
+ghost use Rattle.p9_run.specs.Stands.{IsBetween};
 ghost use Rattle.p9_run.specs.Untouched.{TouchesNoFile, TouchesNoThread};
 
 use crate::bodies::Bodies;
@@ -31,8 +31,7 @@ fn io_turns<E: Engine, D: Device>(engine: &mut E, devices: &mut [D]) -> Result<(
 }
 
 /// One turn of each proc, from 1 to `procs`. It tells whether all of them are over.
-fn proc_turns<R: Wait, E: Engine, P: Programs>(
-    rt: &R,
+fn proc_turns<E: Engine, P: Programs>(
     engine: &mut E,
     programs: &P,
     bodies: &mut Bodies<P::B>,
@@ -40,16 +39,16 @@ fn proc_turns<R: Wait, E: Engine, P: Programs>(
 ) -> Result<bool, NoMemory>
     requires valid { IsValid (E.setup engine.old) }
     requires programs { P.programs programs.now ≡ (E.setup engine.old).programs }
-    requires between { Between (P.asks programs.now) P.B.plan P.B.stands_for (E.entries engine.old) bodies.old.by_thread.items }
+    requires between { IsBetween (P.asks programs.now) P.B.plan P.B.stands_for (E.entries engine.old) bodies.old }
     ensures setup { E.setup engine.new ≡ E.setup engine.old }
-    ensures ok { OnOk result (Between (P.asks programs.now) P.B.plan P.B.stands_for (E.entries engine.new) bodies.new.by_thread.items) }
+    ensures ok { OnOk result (IsBetween (P.asks programs.now) P.B.plan P.B.stands_for (E.entries engine.new) bodies.new) }
     ensures refused { OnErr result (RunsPrograms (P.asks programs.now) (E.entries engine.new)) }
     ensures all_over { result ≡ Ok true → AllOver procs (reply_at (E.setup engine.new) (E.entries engine.new)) }
     ensures files { TouchesNoFile (E.entries engine.old) (E.entries engine.new) }
 {
     let mut all_over = true;
     for i in 0..procs {
-        let is_over = proc_turn(rt, engine, programs, bodies, i + 1)?;
+        let is_over = proc_turn(engine, programs, bodies, i + 1)?;
         all_over &= is_over;
     }
     Ok(all_over)
@@ -69,7 +68,7 @@ pub(crate) fn run_rounds<R: Wait, E: Engine, P: Programs, D: Device>(
 ) -> Result<(), NoMemory>
     requires valid { IsValid (E.setup engine.old) }
     requires programs { P.programs programs.now ≡ (E.setup engine.old).programs }
-    requires between { Between (P.asks programs.now) P.B.plan P.B.stands_for (E.entries engine.old) bodies.old.by_thread.items }
+    requires between { IsBetween (P.asks programs.now) P.B.plan P.B.stands_for (E.entries engine.old) bodies.old }
     requires devices { length devices.old + 1 < 2 ^ 32 }
     ensures setup { E.setup engine.new ≡ E.setup engine.old }
     ensures all_over { OnOk result (AllOver procs (reply_at (E.setup engine.new) (E.entries engine.new))) }
@@ -77,7 +76,7 @@ pub(crate) fn run_rounds<R: Wait, E: Engine, P: Programs, D: Device>(
     ensures devices { AllServeOn D.serves (E.entries engine.old) devices.old (E.entries engine.new) devices.new }
 {
     for _ in rt.forever() {
-        let all_over = proc_turns(rt, engine, programs, bodies, procs)?;
+        let all_over = proc_turns(engine, programs, bodies, procs)?;
         if all_over {
             return Ok(());
         }

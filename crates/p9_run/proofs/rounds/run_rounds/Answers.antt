@@ -21,6 +21,6 @@ loop-preserved g c = record {
   is_finite = tt;
   valid = rw (c.io_turns.ensures.setup, c.in_ok-all_over.ensures.setup) c.loop.invariant.valid;
   setup = search rules;
-  between = left_between _ _ _ _ _ _ c.io_turns.ensures.threads c.in_ok-all_over.ensures.ok;
+  between = left_between _ _ _ _ _ _ _ c.io_turns.ensures.threads c.in_ok-all_over.ensures.ok;
   devices = λ firsts all. c.io_turns.ensures.devices firsts (all_touched _ _ _ _ _ _ c.proc_turns.ensures.files (c.loop.invariant.devices firsts all));
 }

@@ -1,7 +1,7 @@
 use Rattle.p9_word.specs.Setup.{IsValid}
 use Rattle.std.proofs.Common.{◌≡◌, List}
 use Rattle.p9_run.specs.Services.{AllServe}
-use Rattle.p9_run.specs.Stands.{Between}
+use Rattle.p9_run.specs.Stands.{IsBetween}
 use Rattle.p9_run.proofs.rounds.run_rounds.Given as goal
 
 abbrev pub invariant-loop : goal.invariant-loop
@@ -10,6 +10,6 @@ invariant-loop g l = record {
   is_finite : (goal.iterator-loop g).is_finite l.iterator';
   valid : IsValid (g.E.Engine.setup l.engine);
   setup : g.E.Engine.setup l.engine ≡ g.E.Engine.setup l.initial.engine;
-  between : Between (g.P.Programs.asks l.programs) g.P.B.Body.plan g.P.B.Body.stands_for (g.E.Engine.entries l.engine) l.bodies.by_thread.items;
+  between : IsBetween (g.P.Programs.asks l.programs) g.P.B.Body.plan g.P.B.Body.stands_for (g.E.Engine.entries l.engine) l.bodies;
   devices : (firsts : List g.row.D.Denot) → AllServe g.D.Device.serves (g.E.Engine.entries l.initial.engine) 1 firsts l.initial.devices → AllServe g.D.Device.serves (g.E.Engine.entries l.engine) 1 firsts l.devices;
 }

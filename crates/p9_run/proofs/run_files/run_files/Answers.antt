@@ -10,7 +10,7 @@ pub returns-in-Err-clause-moves : goal.returns-in-Err-clause-moves
 returns-in-Err-clause-moves g c = rw c.requires.start (moves_none c.no_bytes_move_nothing.ensures _ _ _ _)
 
 pub run_rounds-outcome-requires-clause-between : goal.run_rounds-outcome-requires-clause-between
-run_rounds-outcome-requires-clause-between g c κs within = rw c.requires.start (between_none _ _ _ _)
+run_rounds-outcome-requires-clause-between g c κs within = rw c.requires.start (between_none _ _ _ _ _)
 
 pub unreachable-requires : goal.unreachable-requires
 unreachable-requires g c =
