@@ -1,5 +1,5 @@
 -- What the run of a copy's text comes to, by how its files were opened and closed.
-use Rattle.std.specs.Prelude.{ℕ, ◌≡◌, ◌≢◌, ◌≤◌, ◌+◌, ◌||◌, ◌++◌, ◌↔◌, Bool, true, false, List, [], Option, Some, None, Result, Ok, Err, MatchBool, MatchResult, OnOk, if◌then◌else◌}
+use Rattle.std.specs.Prelude.{ℕ, ◌≡◌, ◌≢◌, ◌||◌, ◌++◌, ◌↔◌, Bool, true, false, List, [], Option, Some, None, Result, Ok, Err, MatchBool, MatchResult, OnOk, if◌then◌else◌}
 use Rattle.std.specs.Io.KnownBytes.{Consumes, Appends}
 use Rattle.std.proofs.Common.{sym, ◌∙◌, ap, subst, refl, inl, inr, arith}
 use Rattle.p9_word.specs.declared.io_call.IoCall.{IoCall}
@@ -16,13 +16,15 @@ use Rattle.p9_manual.specs.FilesInHistory.{services_at}
 use Rattle.p9_outside.specs.declared.files.FilesFault.{FilesFault}
 use Rattle.p9_outside.specs.declared.files.FilesFault.TheVariants.{Failed, Memory}
 use Rattle.p9_machine.specs.Plain.{IsPlain}
-use Rattle.p9_outside.specs.Causes.{RoseBy, Rose}
+use Rattle.p9_outside.specs.Causes.{CountsFault, is_failed, is_failure}
 use Rattle.p9_outside.specs.Contents.{Told, Stay, Opens, IsFresh, Puts}
 use Rattle.p9_outside.specs.FileRuns.{UntoldAreFull}
 use Rattle.p9_outside.specs.Reading.{FullReads}
 use Rattle.p9_run.proofs.Lifts.{stay_on}
 use Rattle.p9_run.proofs.Runs.{calls_none, history_none}
-use Rattle.p9_run.specs.CopyEnd.{GivenFrom, IsFrontOf, IsGiven, told_at, Holds, RunsNothing, RunsWhole, TellsFaults, CopyEnds, calls_failed, is_open, IsInFault, IsOutFault, IsCopyHistory, failed_at}
+use Rattle.p9_run.specs.CopyEnd.{GivenFrom, IsFrontOf, IsGiven, told_at, Holds, RunsNothing, RunsWhole, CopyEnds, IsCopyHistory}
+use Rattle.p9_run.specs.CountedCalls.{CountsRun}
+use Rattle.p9_run.specs.FaultLines.{TellsFaults, is_open, IsInFault, IsOutFault, failed_at}
 use Rattle.p9_run.specs.CopyFinish.{EndsOrStops, unopened, run_end, IsFinished, IsStopped}
 use Rattle.p9_run.specs.CopyPrograms.{copy_asks}
 use Rattle.p9_run.specs.CopySetup.{copy_setup}
@@ -53,14 +55,15 @@ given_none : (told : Told) (path : List ℕ) → IsGiven told path []
 given_none told path = record { front = rw calls_none (nothing_given told path); full = rw calls_none tt }
 
 -- a file couldn't be opened: the in file, or the out file
-not_opened_in : (told told' : Told) (calls calls' : ℕ) (from to : List ℕ) → Stay told told' → calls ≤ calls' → Rose calls calls' → CopyEnds told told' calls calls' from to [] (record { stuck = false; input = Some Open; output = None })
-not_opened_in told told' calls calls' from to stay later rose =
+not_opened_in : (told told' : Told) (from to : List ℕ) → Stay told told' → CopyEnds told told' from to [] (record { stuck = false; input = Some Open; output = None })
+not_opened_in told told' from to stay =
     record {
       faults = record {
         stuck = refl;
         input = (λ e. cc, λ e. cc);
         output = λ e. cc;
-        calls_rose = (later, omega (arith, rose));
+        alone_in = λ e. refl;
+        alone_out = λ e. cc;
         read = (λ e. cc, λ e. cc);
         write = (λ e. cc, λ e. cc);
       };
@@ -68,14 +71,15 @@ not_opened_in told told' calls calls' from to stay later rose =
       contents = record { history_is = refl; contents = stay };
     }
 
-not_opened_out : (told told' : Told) (calls calls' : ℕ) (from to : List ℕ) → Stay told told' → calls ≤ calls' → Rose calls calls' → CopyEnds told told' calls calls' from to [] (record { stuck = false; input = None; output = Some Open })
-not_opened_out told told' calls calls' from to stay later rose =
+not_opened_out : (told told' : Told) (from to : List ℕ) → Stay told told' → CopyEnds told told' from to [] (record { stuck = false; input = None; output = Some Open })
+not_opened_out told told' from to stay =
     record {
       faults = record {
         stuck = refl;
         input = (λ e. cc, λ e. cc);
         output = λ e. cc;
-        calls_rose = (later, omega (arith, rose));
+        alone_in = λ e. cc;
+        alone_out = λ e. refl;
         read = (λ e. cc, λ e. cc);
         write = (λ e. cc, λ e. cc);
       };
@@ -83,19 +87,19 @@ not_opened_out told told' calls calls' from to stay later rose =
       contents = record { history_is = refl; contents = stay };
     }
 
-unopened_ends : (fault : FilesFault) (input : Bool) (told told' : Told) (calls calls' : ℕ) (from to : List ℕ) → Stay told told' → calls ≤ calls' → (fault ≡ Failed → Rose calls calls') → EndsOrStops told told' calls calls' from to [] (unopened fault input)
-unopened_ends Failed true told told' calls calls' from to stay later rose = not_opened_in told told' calls calls' from to stay later (rose refl)
-unopened_ends Failed false told told' calls calls' from to stay later rose = not_opened_out told told' calls calls' from to stay later (rose refl)
-unopened_ends Memory input told told' calls calls' from to stay later rose = record { given_is = given_none told from; contents = inr stay }
+unopened_ends : (fault : FilesFault) (input : Bool) (told told' : Told) (from to : List ℕ) → Stay told told' → EndsOrStops told told' from to [] (unopened fault input)
+unopened_ends Failed true told told' from to stay = not_opened_in told told' from to stay
+unopened_ends Failed false told told' from to stay = not_opened_out told told' from to stay
+unopened_ends Memory input told told' from to stay = record { given_is = given_none told from; contents = inr stay }
 
 -- a file couldn't be opened
-pub not_opened : (fault : FilesFault) (input : Bool) (told told' : Told) (calls calls' : ℕ) (from to : List ℕ) (history : List Entry) (end : Result RunEnd NoMemory) → end ≡ unopened fault input → history ≡ [] → Stay told told' → calls ≤ calls' → (fault ≡ Failed → Rose calls calls') → EndsOrStops told told' calls calls' from to history end
-not_opened fault input told told' calls calls' from to history end is none stay later rose =
-    rw (is, none) (unopened_ends fault input told told' calls calls' from to stay later rose)
+pub not_opened : (fault : FilesFault) (input : Bool) (told told' : Told) (from to : List ℕ) (history : List Entry) (end : Result RunEnd NoMemory) → end ≡ unopened fault input → history ≡ [] → Stay told told' → EndsOrStops told told' from to history end
+not_opened fault input told told' from to history end is none stay =
+    rw (is, none) (unopened_ends fault input told told' from to stay)
 
 -- memory was wanted before anything was run
-pub not_made : (told told' : Told) (calls calls' : ℕ) (from to : List ℕ) (history : List Entry) (end : Result RunEnd NoMemory) (wanted : NoMemory) → end ≡ Err wanted → history ≡ [] → Stay told told' → EndsOrStops told told' calls calls' from to history end
-not_made told told' calls calls' from to history end wanted is none stay =
+pub not_made : (told told' : Told) (from to : List ℕ) (history : List Entry) (end : Result RunEnd NoMemory) (wanted : NoMemory) → end ≡ Err wanted → history ≡ [] → Stay told told' → EndsOrStops told told' from to history end
+not_made told told' from to history end wanted is none stay =
     rw (is, none) (record { given_is = given_none told from; contents = inr stay })
 
 front_of : (o : Option (List ℕ)) (xs ys bs : List ℕ) → o ≡ Some xs → xs ≡ bs ++ ys → IsFrontOf bs o
@@ -139,13 +143,17 @@ in_read : (read : Bool) → (in_line read ≡ Some Read) ↔ (read ≡ true)
 in_read true = (λ e. refl, λ e. refl)
 in_read false = (λ e. cc, λ e. cc)
 
-in_calls : (read : Bool) → calls_failed (in_line read) ≡ 0
-in_calls true = refl
-in_calls false = refl
-
 out_fault : (write : Bool) (close : Option FileFault) → close ≢ Some Read → IsOutFault (out_line write close)
 out_fault true close other = λ e. cc
 out_fault false close other = other
+
+in_opened : (read : Bool) → in_line read ≢ Some Open
+in_opened true = λ e. cc
+in_opened false = λ e. cc
+
+out_opened : (write : Bool) (close : Option FileFault) → close ≢ Some Open → out_line write close ≢ Some Open
+out_opened true close other = λ e. cc
+out_opened false close other = other
 
 out_write : (write : Bool) (close : Option FileFault) → close ≢ Some Write → (out_line write close ≡ Some Write) ↔ (write ≡ true)
 out_write true close other = (λ e. refl, λ e. refl)
@@ -157,29 +165,15 @@ both_opened true false close other = other
 both_opened false true close other = refl
 both_opened false false close other = other
 
-rose_none : (write : Bool) (x w : ℕ) → x ≤ w → RoseBy (calls_failed (out_line write None)) x w
-rose_none true x w later = (later, omega arith)
-rose_none false x w later = (later, omega arith)
-
-rose_close : (write : Bool) (x w : ℕ) → x ≤ w → Rose x w → RoseBy (calls_failed (out_line write (Some Close))) x w
-rose_close true x w later rose = (later, omega arith)
-rose_close false x w later rose = (later, omega (arith, rose))
-
-rose_before : (n x y z : ℕ) → x ≤ y → RoseBy n y z → RoseBy n x z
-rose_before n x y z later r = (omega (arith, r.0), omega (arith, r.0, r.1))
-
-rose_in : (read : Bool) (n x w : ℕ) → RoseBy n x w → RoseBy (calls_failed (in_line read) + n) x w
-rose_in true n x w r = (r.0, omega (arith, r.1))
-rose_in false n x w r = (r.0, omega (arith, r.1))
-
 -- the lines of a run that went to its end, where the out file's closing gives this line
-closed_faults : (stuck read write : Bool) (close : Option FileFault) (history : List Entry) (x w : ℕ) → stuck ≡ ends_stuck history → read ≡ failed_at 1 history → write ≡ failed_at 2 history → close ≢ Some Read → close ≢ Some Write → RoseBy (calls_failed (out_line write close)) x w → TellsFaults (record { stuck = stuck; input = in_line read; output = out_line write close }) history x w
-closed_faults stuck read write close history x w is_stuck is_read is_write no_read no_write rose =
+closed_faults : (stuck read write : Bool) (close : Option FileFault) (history : List Entry) → stuck ≡ ends_stuck history → read ≡ failed_at 1 history → write ≡ failed_at 2 history → close ≢ Some Read → close ≢ Some Write → close ≢ Some Open → TellsFaults (record { stuck = stuck; input = in_line read; output = out_line write close }) history
+closed_faults stuck read write close history is_stuck is_read is_write no_read no_write no_open =
     record {
       stuck = is_stuck;
       input = in_fault read;
       output = out_fault write close no_read;
-      calls_rose = rose_in read (calls_failed (out_line write close)) x w rose;
+      alone_in = λ e. absurd (in_opened read e);
+      alone_out = λ e. absurd (out_opened write close no_open e);
       read = subst (λ (b : Bool). (in_line read ≡ Some Read) ↔ (b ≡ true)) is_read (in_read read);
       write = subst (λ (b : Bool). (out_line write close ≡ Some Write) ↔ (b ≡ true)) is_write (out_write write close no_write);
     }
@@ -188,7 +182,7 @@ not_none : (write : Bool) → out_line write (Some Close) ≢ None
 not_none true = λ e. cc
 not_none false = λ e. cc
 
-module _ (untold : UntoldAreFull) (told a b c : Told) (x y z w : ℕ) (from to : List ℕ) (left left' held held' : Option (List ℕ)) (reads reads' writes writes' : ℕ) (history : List Entry) (first : Stay told a) (second : Stay a b) (later : x ≤ y) (later' : y ≤ z) (opens : Opens told from left) (fresh : IsFresh a held) (moves : Moves history left left' held held' reads reads' writes writes') where
+module _ (untold : UntoldAreFull) (told a b c : Told) (from to : List ℕ) (left left' held held' : Option (List ℕ)) (reads reads' writes writes' : ℕ) (history : List Entry) (first : Stay told a) (second : Stay a b) (opens : Opens told from left) (fresh : IsFresh a held) (moves : Moves history left left' held held' reads reads' writes writes') where
   stay_ab : Stay told b
   stay_ab = stay_on told a b first second
 
@@ -199,34 +193,59 @@ module _ (untold : UntoldAreFull) (told a b c : Told) (x y z w : ℕ) (from to :
   holds_put puts = holds_after told a b c to held held' _ first second fresh moves.written puts
 
   -- the run went to its end, and the out file was closed so
-  closed_ends : (closed : Result (Unit {0}) FilesFault) → HasEnded copy_setup history → z ≤ w → (closed ≡ Err Failed → Rose z w) → MatchResult closed (λ _. Puts b c to held') (λ _. Stay b c) → EndsOrStops told c x w from to history (run_end (ends_stuck history) (failed_at 1 history) (failed_at 2 history) closed)
-  closed_ends (Ok u) ended more rose puts =
+  closed_ends : (closed : Result (Unit {0}) FilesFault) → HasEnded copy_setup history → MatchResult closed (λ _. Puts b c to held') (λ _. Stay b c) → EndsOrStops told c from to history (run_end (ends_stuck history) (failed_at 1 history) (failed_at 2 history) closed)
+  closed_ends (Ok u) ended puts =
       record {
-        faults = closed_faults (ends_stuck history) (failed_at 1 history) (failed_at 2 history) None history x w refl refl refl (λ e. cc) (λ e. cc) (rose_none (failed_at 2 history) x w (omega arith));
+        faults = closed_faults (ends_stuck history) (failed_at 1 history) (failed_at 2 history) None history refl refl refl (λ e. cc) (λ e. cc) (λ e. cc);
         given_is = given_was;
         contents = subst (λ (o : Bool). MatchBool o (RunsNothing told c history) (RunsWhole told c to history (out_line (failed_at 2 history) None))) (sym (both_opened (failed_at 1 history) (failed_at 2 history) None refl))
             (record { ended = ended; whole = λ none. holds_put puts; either = inl (holds_put puts) });
       }
-  closed_ends (Err Failed) ended more rose stays =
+  closed_ends (Err Failed) ended stays =
       record {
-        faults = closed_faults (ends_stuck history) (failed_at 1 history) (failed_at 2 history) (Some Close) history x w refl refl refl (λ e. cc) (λ e. cc)
-            (rose_before (calls_failed (out_line (failed_at 2 history) (Some Close))) x z w (omega arith) (rose_close (failed_at 2 history) z w more (rose refl)));
+        faults = closed_faults (ends_stuck history) (failed_at 1 history) (failed_at 2 history) (Some Close) history refl refl refl (λ e. cc) (λ e. cc) (λ e. cc);
         given_is = given_was;
         contents = subst (λ (o : Bool). MatchBool o (RunsNothing told c history) (RunsWhole told c to history (out_line (failed_at 2 history) (Some Close)))) (sym (both_opened (failed_at 1 history) (failed_at 2 history) (Some Close) refl))
             (record { ended = ended; whole = λ none. absurd (not_none (failed_at 2 history) none); either = inr (stay_on told b c stay_ab stays) });
       }
-  closed_ends (Err Memory) ended more rose stays =
+  closed_ends (Err Memory) ended stays =
       record { given_is = given_was; contents = inr (stay_on told b c stay_ab stays) }
 
-  stopped : (end : Result RunEnd NoMemory) → IsStopped b c z w end → EndsOrStops told c x w from to history end
-  stopped (Ok e) s = absurd (s.end_is e refl)
-  stopped (Err wanted) s =
+  stopped : (end : Result RunEnd NoMemory) (z w : ℕ) → IsStopped b c z w end → EndsOrStops told c from to history end
+  stopped (Ok e) z w s = absurd (s.end_is e refl)
+  stopped (Err wanted) z w s =
       record { given_is = given_was; contents = inr (subst (λ (d : Told). Stay told d) (sym s.contents) stay_ab) }
 
   -- a run was finished
-  pub finished : (outcome : Result (Unit {0}) NoMemory) (end : Result RunEnd NoMemory) → OnOk outcome (HasEnded copy_setup history) → IsFinished b c z w to held' outcome history end → EndsOrStops told c x w from to history end
-  finished (Ok u) end ended f = rw f.end_is (closed_ends f.closed ended f.later f.failed f.contents)
-  finished (Err wanted) end ended f = stopped end f
+  pub finished : (outcome : Result (Unit {0}) NoMemory) (end : Result RunEnd NoMemory) (z w : ℕ) → OnOk outcome (HasEnded copy_setup history) → IsFinished b c z w to held' outcome history end → EndsOrStops told c from to history end
+  finished (Ok u) end z w ended f = rw f.end_is (closed_ends f.closed ended f.contents)
+  finished (Err wanted) end z w ended f = stopped end z w f
+
+-- the count of a run of which a file couldn't be opened
+pub unopened_counts : (fault : FilesFault) (input : Bool) (x y : ℕ) (end : Result RunEnd NoMemory) → end ≡ unopened fault input → CountsFault (is_failure fault) x y → CountsRun end x y
+unopened_counts Failed true x y end is counted = rw is (record { untold = 0; most = omega arith; count_is = counted })
+unopened_counts Failed false x y end is counted = rw is (record { untold = 0; most = omega arith; count_is = counted })
+unopened_counts Memory input x y end is counted = rw is counted
+
+ended_counts : (stuck read write : Bool) (closed : Result (Unit {0}) FilesFault) (x y : ℕ) → CountsFault (is_failed closed) x y → CountsRun (run_end stuck read write closed) x y
+ended_counts stuck true true (Ok u) x y counted = record { untold = 0; most = omega arith; count_is = omega (arith, counted) }
+ended_counts stuck true false (Ok u) x y counted = record { untold = 0; most = omega arith; count_is = omega (arith, counted) }
+ended_counts stuck false true (Ok u) x y counted = record { untold = 0; most = omega arith; count_is = omega (arith, counted) }
+ended_counts stuck false false (Ok u) x y counted = record { untold = 0; most = omega arith; count_is = omega (arith, counted) }
+ended_counts stuck true true (Err Failed) x y counted = record { untold = 1; most = omega arith; count_is = counted }
+ended_counts stuck true false (Err Failed) x y counted = record { untold = 0; most = omega arith; count_is = counted }
+ended_counts stuck false true (Err Failed) x y counted = record { untold = 1; most = omega arith; count_is = counted }
+ended_counts stuck false false (Err Failed) x y counted = record { untold = 0; most = omega arith; count_is = counted }
+ended_counts stuck read write (Err Memory) x y counted = counted
+
+wanted_counts : (told told' : Told) (end : Result RunEnd NoMemory) (x y : ℕ) → IsStopped told told' x y end → CountsRun end x y
+wanted_counts told told' (Ok e) x y s = absurd (s.end_is e refl)
+wanted_counts told told' (Err wanted) x y s = s.calls_are
+
+-- the count of a run that was finished
+pub finished_counts : (outcome : Result (Unit {0}) NoMemory) (told told' : Told) (to : List ℕ) (held : Option (List ℕ)) (history : List Entry) (end : Result RunEnd NoMemory) (x y : ℕ) → IsFinished told told' x y to held outcome history end → CountsRun end x y
+finished_counts (Ok u) told told' to held history end x y f = rw f.end_is (ended_counts (ends_stuck history) (failed_at 1 history) (failed_at 2 history) f.closed x y f.counted)
+finished_counts (Err wanted) told told' to held history end x y f = wanted_counts told told' end x y f
 
 -- a run of which all procs are over has ended
 pub run_ended : (outcome : Result (Unit {0}) NoMemory) (setup : Setup) (entries history : List Entry) → setup ≡ copy_setup → IsValid setup → history ≡ entries → IsLegal setup entries → ((s : Setup) (es : List Entry) → EndsOver s es) → OnOk outcome (AllOver 1 (reply_at setup entries)) → OnOk outcome (HasEnded copy_setup history)

@@ -9,7 +9,6 @@ pub mod Turns
 pub mod Untouched
 pub mod Services
 pub mod Devices
-pub mod Faults
 pub mod Runs
 pub mod CopyRuns
 pub mod EngineSteps

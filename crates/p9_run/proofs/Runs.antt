@@ -18,7 +18,6 @@ use Rattle.p9_outside.specs.Reading.{reader_at, FullReads}
 use Rattle.p9_outside.specs.Writing.{writer_at}
 use Rattle.p9_outside.specs.FileServices.{FileServes}
 use Rattle.p9_outside.specs.FileRuns.{FilesRun}
-use Rattle.p9_run.proofs.Faults.{rose_by}
 use Rattle.p9_run.specs.Stands.{Between}
 use Rattle.p9_run.specs.Services.{Serves, AllServe}
 use Rattle.p9_run.specs.Moves.{RunsOnFiles, Moves}
@@ -66,8 +65,8 @@ moves_none none left held faults counts =
       given = rw calls_none (none left).0;
       full = rw calls_none tt;
       written = rw calls_none (none held).1;
-      read_faults = rw calls_none (omega arith, omega arith);
-      write_faults = rw calls_none (omega arith, omega arith);
+      read_faults = rw calls_none (omega arith);
+      write_faults = rw calls_none (omega arith);
     }
 
 module _ {S K : Type 0} (left : S → Option (List ℕ)) (faults : S → ℕ) (held : K → Option (List ℕ)) (counts : K → ℕ) (law : FilesRun left faults held counts) where
@@ -103,8 +102,8 @@ module _ {S K : Type 0} (left : S → Option (List ℕ)) (faults : S → ℕ) (h
           given = read.given;
           full = subst (λ (b : Bool). FullReads b (left reader.source) (services_at 1 history)) (ap (λ (at : At). at.failed) a) read.full;
           written = wrote.written;
-          read_faults = rose_by _ _ _ read.tells;
-          write_faults = rose_by _ _ _ wrote.tells;
+          read_faults = read.tells;
+          write_faults = wrote.tells;
         };
       }
 

@@ -9,6 +9,8 @@ pub mod CopyText
 pub mod CopySetup
 pub mod Report
 pub mod FileText
+pub mod FaultLines
+pub mod CountedCalls
 pub mod CopyEnd
 pub mod CopyFinish
 pub mod Ended

@@ -1,11 +1,11 @@
 -- A run over a file that is read, file 1, and a file that is written, file 2.
-use Rattle.std.specs.Prelude.{ℕ, false, true, List, Option}
+use Rattle.std.specs.Prelude.{ℕ, ◌≡◌, false, true, List, Option}
 use Rattle.std.specs.Io.KnownBytes.{Consumes, Appends}
 use Rattle.p9_word.specs.declared.trail.Entry.{Entry}
 use Rattle.p9_manual.specs.Programs.{Asks, RunsPrograms}
 use Rattle.p9_manual.specs.Files.{TreatsAsFile, at_first, given, joined, written}
 use Rattle.p9_manual.specs.FilesInHistory.{services_at, IsDone}
-use Rattle.p9_outside.specs.Causes.{RoseBy}
+use Rattle.p9_outside.specs.Counts.{raised}
 use Rattle.p9_outside.specs.Reading.{FullReads}
 use Rattle.p9_outside.specs.DeviceRuns.{failures}
 
@@ -19,13 +19,13 @@ pub record RunsOnFiles (asks : Asks) (history : List Entry) : Type 0 where
   pub write_done : IsDone 2 history
 
 -- what went through the files: the bytes given are those that the source has less, each read is full until one fails,
--- the bytes written are those that the sink has more, and each count of faults rose by as much as failures were recorded
+-- the bytes written are those that the sink has more, and each count of faults rose by just as much as failures were recorded
 pub record Moves (history : List Entry) (left left' held held' : Option (List ℕ)) (faults faults' counts counts' : ℕ) : Type 0 where
   pub given : Consumes left left' (joined (given (services_at 1 history)))
   pub full : FullReads false left (services_at 1 history)
   pub written : Appends held held' (written (services_at 2 history))
-  pub read_faults : RoseBy (failures (services_at 1 history)) faults faults'
-  pub write_faults : RoseBy (failures (services_at 2 history)) counts counts'
+  pub read_faults : faults' ≡ raised faults (failures (services_at 1 history))
+  pub write_faults : counts' ≡ raised counts (failures (services_at 2 history))
 
 -- the same by what a source and a sink tell of themselves
 abbrev pub MovesOver : {S K : Type 0} → (S → Option (List ℕ)) → (S → ℕ) → (K → Option (List ℕ)) → (K → ℕ) → List Entry → S → S → K → K → Type 0

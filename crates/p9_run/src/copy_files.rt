@@ -1,8 +1,10 @@
 ghost use Rattle.std.specs.Prelude.{◌≡◌, [], IfOk, OnOk};
 ghost use Rattle.p9_word.specs.Setup.{IsValid};
-ghost use Rattle.p9_run.specs.CopyEnd.{IsCopyTrail, fails_at, failed_at};
+ghost use Rattle.p9_run.specs.CopyEnd.{IsCopyTrail};
 ghost use Rattle.p9_run.specs.CopyFinish.{unopened, run_end, FinishesRun, CopyLeaves};
 ghost use Rattle.p9_run.specs.CopySetup.{copy_setup};
+ghost use Rattle.p9_run.specs.CountedCalls.{CountsRun};
+ghost use Rattle.p9_run.specs.FaultLines.{fails_at, failed_at};
 ghost use Rattle.p9_run.specs.Moves.{MovesOver};
 ghost use Rattle.p9_manual.specs.Effects.{has_failed};
 ghost use Rattle.p9_laws.specs.Ending.{HasEnded, is_stuck_reply, ends_stuck};
@@ -176,7 +178,8 @@ pub(crate) fn copy_files<R: Wait, F: Files>(
     to: &[u8],
 ) -> Copied
     ensures trail { IsCopyTrail result.trail }
-    ensures end { CopyLeaves F.contents F.faults files.old files.new from.now to.now result }
+    ensures end { CopyLeaves F.contents files.old files.new from.now to.now result }
+    ensures counts { CountsRun result.end (F.faults files.old) (F.faults files.new) }
 {
     untold_reads_are_full();
     let source = match files.source(alloc, from) {

@@ -1,7 +1,7 @@
 ghost use Rattle.std.specs.Prelude.{◌≡◌, ◌≤◌, ◌⊎◌, length, IfOk, MatchOption};
 ghost use Rattle.std.specs.Io.KnownBytes.{Consumes, IsAtEnd};
-ghost use Rattle.p9_outside.specs.Causes.{Rose};
 ghost use Rattle.p9_outside.specs.Contents.{Stay};
+ghost use Rattle.p9_run.specs.CountedCalls.{CountsText};
 ghost use Rattle.p9_run.specs.FileText.{IsAccepted, IsRefused, IsReadFrom};
 
 use crate::copy_text::{CopyPaths, read_text};
@@ -70,8 +70,7 @@ pub(crate) fn read_file<F: Files>(
 ) -> Result<Room<u8>, TextFault>
     ensures text { IfOk result (λ r. IsReadFrom (F.contents files.old) file.now r.items) }
     ensures contents { Stay (F.contents files.old) (F.contents files.new) }
-    ensures later { F.faults files.old ≤ F.faults files.new }
-    ensures cause { result ≡ Err TextFault.Open → Rose (F.faults files.old) (F.faults files.new) }
+    ensures counts { CountsText result (F.faults files.old) (F.faults files.new) }
 {
     let mut source = match files.source(alloc, file) {
         Ok(source) => source,

@@ -1,6 +1,6 @@
 ghost use Rattle.std.specs.Prelude.{◌≡◌, ◌⊎◌, [], map, string_bytes};
 ghost use Rattle.p9_run.specs.CopyEnd.{IsCopyTrail};
-ghost use Rattle.p9_run.specs.Ended.{CopyEnded, TextEnded, FileEnded, WordsEnded, AnswersOn};
+ghost use Rattle.p9_run.specs.Ended.{CopyEnded, TextEnded, FileEnded, WordsEnded, EndCounted, AnswersOn};
 ghost use Rattle.p9_run.specs.PipeMain.{IsCall};
 ghost use Rattle.p9_run.specs.declared.report.CommandEnd.TheVariants.{Memory};
 
@@ -52,7 +52,8 @@ fn nothing_ran(alloc: Global, end: CommandEnd) -> Ended
 /// Runs the text of a copy with these paths.
 fn run_copy<R: Wait, F: Files>(rt: &R, alloc: Global, files: &mut F, paths: CopyPaths) -> Ended
     ensures trail { IsCopyTrail result.trail }
-    ensures came { CopyEnded F.contents F.faults files.old files.new paths.from paths.to result }
+    ensures came { CopyEnded F.contents files.old files.new paths.from paths.to result }
+    ensures counts { EndCounted F.faults files.old files.new result }
 {
     let CopyPaths { from, to } = paths;
     let Copied { end, trail } = copy_files(rt, alloc, files, from.as_slice(), to.as_slice());
@@ -77,7 +78,8 @@ fn run_text<R: Wait, F: Files>(
     text: &[u8],
 ) -> Ended
     ensures trail { IsCopyTrail result.trail }
-    ensures came { TextEnded F.contents F.faults files.old files.new file text.now result }
+    ensures came { TextEnded F.contents files.old files.new file text.now result }
+    ensures counts { EndCounted F.faults files.old files.new result }
 {
     untold_reads_are_full();
     match accept(alloc, text) {
@@ -90,7 +92,8 @@ fn run_text<R: Wait, F: Files>(
 /// Reads FILE and runs its text.
 fn run_file<R: Wait, F: Files>(rt: &R, alloc: Global, files: &mut F, file: Msg) -> Ended
     ensures trail { IsCopyTrail result.trail }
-    ensures came { FileEnded F.contents F.faults files.old files.new file result }
+    ensures came { FileEnded F.contents files.old files.new file result }
+    ensures counts { EndCounted F.faults files.old files.new result }
 {
     let fault = match read_file(alloc, files, file.as_slice()) {
         Ok(text) => return run_text(rt, alloc, files, file, text.as_slice()),
@@ -104,7 +107,8 @@ fn run_file<R: Wait, F: Files>(rt: &R, alloc: Global, files: &mut F, file: Msg) 
 /// Does what the words ask for.
 fn run_words<R: Wait, F: Files>(rt: &R, alloc: Global, words: &Vec<String>, files: &mut F) -> Ended
     ensures trail { IsCopyTrail result.trail }
-    ensures came { WordsEnded F.contents F.faults files.old files.new (map string_bytes words.now.items) result }
+    ensures came { WordsEnded F.contents files.old files.new (map string_bytes words.now.items) result }
+    ensures counts { EndCounted F.faults files.old files.new result }
 {
     let Some(file) = command(words) else {
         return nothing_ran(alloc, CommandEnd::Usage);
