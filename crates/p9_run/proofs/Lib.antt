@@ -4,7 +4,7 @@ pub mod TextReads
 pub mod Lifts
 pub mod Lives
 pub mod Paired
-pub mod BodiesByThread
+pub mod ByNumber
 pub mod Turns
 pub mod Untouched
 pub mod Services

@@ -14,7 +14,7 @@ use Rattle.p9_word.specs.declared.trail.Seat.{Seat}
 use Rattle.p9_word.specs.declared.trail.Entry.{Entry}
 use Rattle.p9_manual.specs.Programs.{Life, Unborn, Lives, Dead, life, life_after, given_answer, laid_down, ends_all, Asks, IsAskedBy, RunsPrograms}
 use Rattle.p9_run.proofs.Lives.{life-push, runs-push, same_id, other_id}
-use Rattle.p9_run.specs.BodiesByThread.{body_of}
+use Rattle.p9_run.specs.ByNumber.{value_at}
 use Rattle.p9_laws.specs.RunReplies.{IsLiving}
 use Rattle.p9_manual.specs.Step.{makes_entry}
 use Rattle.p9_manual.specs.History.{with_entry}
@@ -40,12 +40,12 @@ module _ {B : Type 0} (asks : Asks) (plan : B → List Answer → Request) (stan
     asked.request_is ready.before ready.stands_for ∙ ap (λ (f : List Answer → Request). f (ready.before ++ last ∷ [])) ready.plan_is ∙ ap (asks program arg) (sym ready.answers_are),
   )
 
-  answered_each : (H : List Entry) (bodies bodies' : List (Option B)) (requests requests' : List (Option Request)) (t : ℕ) (new : B) (request : Request) → Stands asks plan stands (life t H) (Some new) (Some request) → ((u : ℕ) → u ≢ t → Stands asks plan stands (life u H) (body_of bodies u) (body_of requests u)) → ((u : ℕ) → body_of bodies' u ≡ (if u == t then Some new else body_of bodies u)) → ((u : ℕ) → body_of requests' u ≡ (if u == t then Some request else body_of requests u)) → (u : ℕ) → (((u == t) ≡ true) × (u ≡ t)) ⊎ (((u == t) ≡ false) × (u ≢ t)) → Stands asks plan stands (life u H) (body_of bodies' u) (body_of requests' u)
+  answered_each : (H : List Entry) (bodies bodies' : List (Option B)) (requests requests' : List (Option Request)) (t : ℕ) (new : B) (request : Request) → Stands asks plan stands (life t H) (Some new) (Some request) → ((u : ℕ) → u ≢ t → Stands asks plan stands (life u H) (value_at bodies u) (value_at requests u)) → ((u : ℕ) → value_at bodies' u ≡ (if u == t then Some new else value_at bodies u)) → ((u : ℕ) → value_at requests' u ≡ (if u == t then Some request else value_at requests u)) → (u : ℕ) → (((u == t) ≡ true) × (u ≡ t)) ⊎ (((u == t) ≡ false) × (u ≢ t)) → Stands asks plan stands (life u H) (value_at bodies' u) (value_at requests' u)
   answered_each H bodies bodies' requests requests' t new request here others put put' u (inl same) = rw (put, put', same.0, same.1) here
   answered_each H bodies bodies' requests requests' t new request here others put put' u (inr differs) = rw (put, put', differs.0) (others u differs.1)
 
   -- a thread has had its answer, and is to ask this next
-  pub answered : (H : List Entry) (bodies bodies' : List (Option B)) (requests requests' : List (Option Request)) (t : ℕ) (last : Answer) (old new : B) (request : Request) → Asked plan stands old new last request → ((u : ℕ) → body_of bodies' u ≡ (if u == t then Some new else body_of bodies u)) → ((u : ℕ) → body_of requests' u ≡ (if u == t then Some request else body_of requests u)) → InTurn asks plan stands H bodies requests t last old → Between asks plan stands H bodies' requests'
+  pub answered : (H : List Entry) (bodies bodies' : List (Option B)) (requests requests' : List (Option Request)) (t : ℕ) (last : Answer) (old new : B) (request : Request) → Asked plan stands old new last request → ((u : ℕ) → value_at bodies' u ≡ (if u == t then Some new else value_at bodies u)) → ((u : ℕ) → value_at requests' u ≡ (if u == t then Some request else value_at requests u)) → InTurn asks plan stands H bodies requests t last old → Between asks plan stands H bodies' requests'
   answered H bodies bodies' requests requests' t last old new request asked put put' turn =
       record {
         runs = turn.runs;
@@ -63,9 +63,9 @@ module _ {B : Type 0} (asks : Asks) (plan : B → List Answer → Request) (stan
   taken_each false l o next here = here
 
   -- a request is taken out to be made
-  pub request_taken : (H : List Entry) (bodies : List (Option B)) (requests requests' : List (Option Request)) (t : ℕ) → ((u : ℕ) → body_of requests' u ≡ (if u == t then None else body_of requests u)) → Between asks plan stands H bodies requests → Between asks plan stands H bodies requests'
+  pub request_taken : (H : List Entry) (bodies : List (Option B)) (requests requests' : List (Option Request)) (t : ℕ) → ((u : ℕ) → value_at requests' u ≡ (if u == t then None else value_at requests u)) → Between asks plan stands H bodies requests → Between asks plan stands H bodies requests'
   request_taken H bodies requests requests' t took between =
-      record { runs = between.runs; each = λ u. rw took (taken_each (u == t) (life u H) (body_of bodies u) (body_of requests u) (between.each u)) }
+      record { runs = between.runs; each = λ u. rw took (taken_each (u == t) (life u H) (value_at bodies u) (value_at requests u) (between.each u)) }
 
   asked_life : (l : Life) (o : Option B) (request : Request) → IsLiving l → Stands asks plan stands l o (Some request) → IsAskedBy asks request l
   asked_life Unborn o request living here = living
@@ -74,9 +74,9 @@ module _ {B : Type 0} (asks : Asks) (plan : B → List Answer → Request) (stan
   asked_life (Lives program arg answers) (Some b) request living here = here.2
 
   -- the request that was kept for a thread that lives is the one that its program makes
-  pub is_asked : (H : List Entry) (bodies : List (Option B)) (requests : List (Option Request)) (t : ℕ) (request : Request) → Between asks plan stands H bodies requests → Some request ≡ body_of requests t → IsLiving (life t H) → IsAskedBy asks request (life t H)
+  pub is_asked : (H : List Entry) (bodies : List (Option B)) (requests : List (Option Request)) (t : ℕ) (request : Request) → Between asks plan stands H bodies requests → Some request ≡ value_at requests t → IsLiving (life t H) → IsAskedBy asks request (life t H)
   is_asked H bodies requests t request between is living =
-      asked_life (life t H) (body_of bodies t) request living (subst (λ (o : Option Request). Stands asks plan stands (life t H) (body_of bodies t) o) (sym is) (between.each t))
+      asked_life (life t H) (value_at bodies t) request living (subst (λ (o : Option Request). Stands asks plan stands (life t H) (value_at bodies t) o) (sym is) (between.each t))
 
   was_ready : (l : Life) (a : Answer) (body : B) (next : Option Request) → IsLiving l → Stands asks plan stands l (Some body) next → IsReady asks plan stands (given_answer a l) a body
   was_ready Unborn a body next living here = living
@@ -84,12 +84,12 @@ module _ {B : Type 0} (asks : Asks) (plan : B → List Answer → Request) (stan
   was_ready (Lives program arg answers) a body next living here = record { plan_is = here.0; before = answers; answers_are = refl; stands_for = here.1 }
 
   -- thread t is answered at once
-  pub call_now : (H : List Entry) (bodies bodies' : List (Option B)) (requests : List (Option Request)) (t : ℕ) (request : Request) (seat : Seat) (a : Answer) (body : B) → Between asks plan stands H bodies requests → IsAskedBy asks request (life t H) → IsLiving (life t H) → Some body ≡ body_of bodies t → ((u : ℕ) → body_of bodies' u ≡ (if u == t then None else body_of bodies u)) → InTurn asks plan stands (H ++ entry seat (Call t request) (Now a) ∷ []) bodies' requests t a body
+  pub call_now : (H : List Entry) (bodies bodies' : List (Option B)) (requests : List (Option Request)) (t : ℕ) (request : Request) (seat : Seat) (a : Answer) (body : B) → Between asks plan stands H bodies requests → IsAskedBy asks request (life t H) → IsLiving (life t H) → Some body ≡ value_at bodies t → ((u : ℕ) → value_at bodies' u ≡ (if u == t then None else value_at bodies u)) → InTurn asks plan stands (H ++ entry seat (Call t request) (Now a) ∷ []) bodies' requests t a body
   call_now H bodies bodies' requests t request seat a body between asked living body_is took =
       record {
         runs = runs-push asks H (entry seat (Call t request) (Now a)) between.runs asked;
         others = λ u ne. rw (life-push, took, other_id u t ne) (between.each u);
-        ready = rw (life-push, same_id) (was_ready (life t H) a body (body_of requests t) living (rw body_is (between.each t)));
+        ready = rw (life-push, same_id) (was_ready (life t H) a body (value_at requests t) living (rw body_is (between.each t)));
       }
 
   down : (l : Life) (o : Option B) (next : Option Request) → Stands asks plan stands (laid_down l) o next
@@ -101,12 +101,12 @@ module _ {B : Type 0} (asks : Asks) (plan : B → List Answer → Request) (stan
   down_if true l o next here = down l o next
   down_if false l o next here = here
 
-  ends_each : (H : List Entry) (bodies bodies' : List (Option B)) (requests : List (Option Request)) (t u : ℕ) (seat : Seat) (request : Request) → Stands asks plan stands (life u H) (body_of bodies u) (body_of requests u) → ((v : ℕ) → body_of bodies' v ≡ (if v == t then None else body_of bodies v)) → (((u == t) ≡ true) × (u ≡ t)) ⊎ (((u == t) ≡ false) × (u ≢ t)) → Stands asks plan stands (life_after u (life u H) (entry seat (Call t request) Ended)) (body_of bodies' u) (body_of requests u)
-  ends_each H bodies bodies' requests t u seat request here took (inl same) = rw same.0 (down (life u H) (body_of bodies' u) (body_of requests u))
-  ends_each H bodies bodies' requests t u seat request here took (inr differs) = rw (took, differs.0) (down_if (ends_all request) (life u H) (body_of bodies u) (body_of requests u) here)
+  ends_each : (H : List Entry) (bodies bodies' : List (Option B)) (requests : List (Option Request)) (t u : ℕ) (seat : Seat) (request : Request) → Stands asks plan stands (life u H) (value_at bodies u) (value_at requests u) → ((v : ℕ) → value_at bodies' v ≡ (if v == t then None else value_at bodies v)) → (((u == t) ≡ true) × (u ≡ t)) ⊎ (((u == t) ≡ false) × (u ≢ t)) → Stands asks plan stands (life_after u (life u H) (entry seat (Call t request) Ended)) (value_at bodies' u) (value_at requests u)
+  ends_each H bodies bodies' requests t u seat request here took (inl same) = rw same.0 (down (life u H) (value_at bodies' u) (value_at requests u))
+  ends_each H bodies bodies' requests t u seat request here took (inr differs) = rw (took, differs.0) (down_if (ends_all request) (life u H) (value_at bodies u) (value_at requests u) here)
 
   -- thread t has ended, and its body is let go
-  pub call_ended : (H : List Entry) (bodies bodies' : List (Option B)) (requests : List (Option Request)) (t : ℕ) (request : Request) (seat : Seat) → Between asks plan stands H bodies requests → IsAskedBy asks request (life t H) → ((v : ℕ) → body_of bodies' v ≡ (if v == t then None else body_of bodies v)) → Between asks plan stands (H ++ entry seat (Call t request) Ended ∷ []) bodies' requests
+  pub call_ended : (H : List Entry) (bodies bodies' : List (Option B)) (requests : List (Option Request)) (t : ℕ) (request : Request) (seat : Seat) → Between asks plan stands H bodies requests → IsAskedBy asks request (life t H) → ((v : ℕ) → value_at bodies' v ≡ (if v == t then None else value_at bodies v)) → Between asks plan stands (H ++ entry seat (Call t request) Ended ∷ []) bodies' requests
   call_ended H bodies bodies' requests t request seat between asked took =
       record {
         runs = runs-push asks H (entry seat (Call t request) Ended) between.runs asked;
@@ -141,12 +141,12 @@ module _ {B : Type 0} (asks : Asks) (plan : B → List Answer → Request) (stan
         ready = rw (life-push, same_id) (record { plan_is = plan_is; before = []; answers_are = refl; stands_for = stands_for });
       }
 
-  pub turns : (H : List Entry) (bodies bodies' : List (Option B)) (requests : List (Option Request)) (seat : Seat) (t : ℕ) (a : Answer) (body : B) → Between asks plan stands H bodies requests → IsLiving (life t H) → Some body ≡ body_of bodies t → ((u : ℕ) → body_of bodies' u ≡ (if u == t then None else body_of bodies u)) → InTurn asks plan stands (H ++ entry seat Next (Turn t a) ∷ []) bodies' requests t a body
+  pub turns : (H : List Entry) (bodies bodies' : List (Option B)) (requests : List (Option Request)) (seat : Seat) (t : ℕ) (a : Answer) (body : B) → Between asks plan stands H bodies requests → IsLiving (life t H) → Some body ≡ value_at bodies t → ((u : ℕ) → value_at bodies' u ≡ (if u == t then None else value_at bodies u)) → InTurn asks plan stands (H ++ entry seat Next (Turn t a) ∷ []) bodies' requests t a body
   turns H bodies bodies' requests seat t a body between living body_is took =
       record {
         runs = runs_on H seat (Turn t a) between.runs;
         others = λ u ne. rw (life-push, took, other_id u t ne) (between.each u);
-        ready = rw (life-push, same_id) (was_ready (life t H) a body (body_of requests t) living (rw body_is (between.each t)));
+        ready = rw (life-push, same_id) (was_ready (life t H) a body (value_at requests t) living (rw body_is (between.each t)));
       }
 
   quiet_each : (l : Life) (u : ℕ) (seat : Seat) (r : Reply) → ((t program arg : ℕ) → r ≡ Begin t program arg → ⊥) → ((t : ℕ) (a : Answer) → r ≡ Turn t a → ⊥) → life_after u l (entry seat Next r) ≡ l

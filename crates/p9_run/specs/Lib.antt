@@ -15,7 +15,7 @@ pub mod CopyEnd
 pub mod CopyFinish
 pub mod Ended
 pub mod PipeMain
-pub mod BodiesByThread
+pub mod ByNumber
 pub mod Stands
 pub mod Over
 pub mod Untouched

@@ -6,7 +6,7 @@ use Rattle.p9_word.specs.declared.trail.Entry.{Entry}
 use Rattle.p9_manual.specs.Programs.{Life, Unborn, Lives, Dead, life, Asks, RunsPrograms}
 use Rattle.p9_run.specs.declared.bodies.Bodies.{Bodies}
 use Rattle.p9_run.specs.declared.bodies.Running.{Running}
-use Rattle.p9_run.specs.BodiesByThread.{body_of}
+use Rattle.p9_run.specs.ByNumber.{value_at}
 
 -- a request that is to be made next, if there is one, is this one
 abbrev pub MayAsk : Option Request → Request → Type 0
@@ -36,19 +36,19 @@ IsReady asks plan stands Dead last b = ⊥
 -- between two events: each living thread's body is here, with the request that it is to make next, if it runs
 pub record Between {B : Type 0} (asks : Asks) (plan : B → List Answer → Request) (stands : B → List Answer → Type 0) (history : List Entry) (bodies : List (Option B)) (requests : List (Option Request)) : Type 0 where
   pub runs : RunsPrograms asks history
-  pub each : (u : ℕ) → Stands asks plan stands (life u history) (body_of bodies u) (body_of requests u)
+  pub each : (u : ℕ) → Stands asks plan stands (life u history) (value_at bodies u) (value_at requests u)
 
 -- thread t is answered: its body is out, and the others are here
 pub record InTurn {B : Type 0} (asks : Asks) (plan : B → List Answer → Request) (stands : B → List Answer → Type 0) (history : List Entry) (bodies : List (Option B)) (requests : List (Option Request)) (t : ℕ) (last : Answer) (b : B) : Type 0 where
   pub runs : RunsPrograms asks history
-  pub others : (u : ℕ) → u ≢ t → Stands asks plan stands (life u history) (body_of bodies u) (body_of requests u)
+  pub others : (u : ℕ) → u ≢ t → Stands asks plan stands (life u history) (value_at bodies u) (value_at requests u)
   pub ready : IsReady asks plan stands (life t history) last b
 
 -- the same of the bodies of a run
 abbrev pub IsBetween : {B : Type 0} → Asks → (B → List Answer → Request) → (B → List Answer → Type 0) → List Entry → Bodies B → Type 0
-IsBetween asks plan stands history kept = Between asks plan stands history kept.by_thread.by_thread.items kept.requests.by_thread.items
+IsBetween asks plan stands history kept = Between asks plan stands history kept.by_thread.values.items kept.requests.values.items
 
 -- the same of a thread that is taken out for its turn
 abbrev pub HasTurn : {B : Type 0} → Asks → (B → List Answer → Request) → (B → List Answer → Type 0) → List Entry → Bodies B → Running B → Type 0
 HasTurn asks plan stands history kept thread =
-    InTurn asks plan stands history kept.by_thread.by_thread.items kept.requests.by_thread.items thread.tid thread.last thread.body
+    InTurn asks plan stands history kept.by_thread.values.items kept.requests.values.items thread.tid thread.last thread.body
