@@ -2,5 +2,6 @@ pub mod Exchange
 pub mod For
 pub mod Kept
 pub mod Lends
+pub mod Offered
 pub mod Passing
 pub mod Sides

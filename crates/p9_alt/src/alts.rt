@@ -2,12 +2,13 @@ ghost use Rattle.std.specs.Prelude.{◌≡◌, ◌==◌, ◌≤◌, ◌<◌, ◌
 ghost use Rattle.std.specs.List.{list_any, find};
 ghost use Rattle.std.specs.Option.{option_map};
 ghost use Rattle.std.specs.Borrow.{sem};
-ghost use Rattle.p9_manual.specs.Alt.{verdict, unready};
+ghost use Rattle.p9_manual.specs.Alt.{unready};
 ghost use Rattle.p9_manual.specs.Close.{all_failed};
 ghost use Rattle.p9_manual.specs.AltEntries.{waits_on};
 ghost use Rattle.p9_manual.specs.ReadyEntries.{fits, ready_entries};
 ghost use Rattle.p9_chan.specs.Channels.{IsMade, chan_of, is_closed_in, emptied, freed};
 ghost use Rattle.p9_alt.specs.Exchange.{others, HasMemory, NoSendOnClosed, IsIdle, AreBefore, offer_of, wake_of, chans_after, waits_after, pair_of, closed_on, shown_alt};
+ghost use Rattle.p9_alt.specs.Offered.{caller, offered};
 ghost use Rattle.p9_alt.specs.Passing.{nth_deal, IsDealt, IsLeft};
 
 use crate::answers::fail_all;
@@ -167,35 +168,12 @@ impl Alts {
         requires idle { IsIdle tid self.old }
         requires before { AreBefore at self.old }
         requires open { NoSendOnClosed self.old }
-        ensures told { result ≡ offer_of (verdict w (record {
-          tid = tid;
-          at = at;
-          single = single;
-          entries = entries;
-        }) ending self.old.channels.chans self.old.waits) }
-        ensures woken { woken.new ≡ wake_of (verdict w (record {
-          tid = tid;
-          at = at;
-          single = single;
-          entries = entries;
-        }) ending self.old.channels.chans self.old.waits) }
-        ensures chans { self.new.channels.chans ≡ chans_after (verdict w (record {
-          tid = tid;
-          at = at;
-          single = single;
-          entries = entries;
-        }) ending self.old.channels.chans self.old.waits) self.old.channels.chans }
-        ensures waits { self.new.waits ≡ waits_after (verdict w (record {
-          tid = tid;
-          at = at;
-          single = single;
-          entries = entries;
-        }) ending self.old.channels.chans self.old.waits) (record {
-          tid = tid;
-          at = at;
-          single = single;
-          entries = entries;
-        }) self.old.waits }
+        ensures told { result ≡ offer_of (offered w (caller tid at entries single) ending self.old) }
+        ensures woken { woken.new ≡ wake_of (offered w (caller tid at entries single) ending self.old) }
+        ensures chans { self.new.channels.chans ≡ chans_after
+            (offered w (caller tid at entries single) ending self.old) self.old.channels.chans }
+        ensures waits { self.new.waits ≡ waits_after
+            (offered w (caller tid at entries single) ending self.old) (caller tid at entries single) self.old.waits }
         ensures room { self.new.channels.room ≡ self.old.channels.room }
         ensures open { NoSendOnClosed self.new }
     {

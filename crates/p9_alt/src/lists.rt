@@ -1,4 +1,4 @@
-ghost use Rattle.std.specs.Prelude.{◌≡◌, ◌∷◌, [], true, false, length, IfOk, OnOk};
+ghost use Rattle.std.specs.Prelude.{◌≡◌, ◌==◌, ◌||◌, ◌∷◌, [], true, false, length, IfOk, OnOk};
 
 use p9_word::{AltEntry, AltOp, NoMemory, Room, Seq, Slot};
 use std::alloc::Global;
@@ -101,7 +101,7 @@ impl Lists {
 
     /// Keeps the memory of a list that is done with, if it has one entry and fewer than two are kept.
     pub fn keep(&mut self, list: Seq<AltEntry>)
-        ensures { self.old ≡ true → self.new ≡ true }
+        ensures { self.new ≡ (self.old || length list == 1) }
     {
         if list.len() != 1 {
             return;
