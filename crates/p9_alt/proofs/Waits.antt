@@ -5,8 +5,8 @@ use Rattle.std.proofs.lemmas.List.{at_drop_all, append_assoc, append-nil, map_pu
 use Rattle.std.proofs.lemmas.List.Elements.{All-filter, filter_more}
 use Rattle.std.proofs.lemmas.List.Sums.{sum_by-drop_more}
 use Rattle.std.proofs.lemmas.Option.{slice_get_read, slice_get_past}
-use Rattle.std.specs.Prelude.{Some, ◌==◌, count_by, slice_get, remove, vec_len, vec_capacity, Vec}
-use Rattle.std.specs.List.{find, filter}
+use Rattle.std.specs.Prelude.{Option, Some, is_some, ◌||◌, if◌then◌else◌, ◌==◌, count_by, slice_get, remove, vec_len, vec_capacity, Vec}
+use Rattle.std.specs.List.{find, filter, list_any}
 use Rattle.std.specs.declared.alloc.Global.{Global}
 use Rattle.p9_manual.specs.declared.state.Party.{Party}
 use Rattle.p9_manual.specs.Standing.{times}
@@ -26,6 +26,32 @@ find_later p ws i w lt at off = rw (next_is ws i w lt at, off) refl
 
 pub find_none : {A : Type 0} (p : A → Bool) (ws : List A) (i : ℕ) → length ws ≤ i → slice_get ws (length ws) ≡ find p (drop i ws)
 find_none p ws i le = slice_get_past ws (length ws) (omega arith) ∙ sym (at_drop_all (find p) ws i le)
+
+-- none passes of those before an end
+pub unmet_past : {A : Type 0} (p : A → Bool) (ws : List A) (i : ℕ) → length ws ≤ i → find p ws ≡ find p (drop i ws) → find p ws ≡ find p (drop (length ws) ws)
+unmet_past p ws i le e = e ∙ (at_drop_all (find p) ws i le ∙ sym (at_drop_all (find p) ws (length ws) (omega arith)))
+
+some_or : {A : Type 0} (b : Bool) (x : A) (o : Option A) (r : Bool) → is_some o ≡ r → is_some (if b then Some x else o) ≡ (b || r)
+some_or true x o r e = refl
+some_or false x o r e = e
+
+-- one is found where one passes
+found_any : {A : Type 0} (p : A → Bool) (ws : List A) → is_some (find p ws) ≡ list_any p ws
+found_any p [] = refl
+found_any p (w ∷ ws) = some_or (p w) w (find p ws) (list_any p ws) (found_any p ws)
+
+some_within : {A : Type 0} (ws : List A) (i : ℕ) → i < length ws → is_some (slice_get ws i) ≡ true
+some_within [] i lt = absurd (omega arith)
+some_within (w ∷ ws) zero lt = refl
+some_within (w ∷ ws) (suc i) lt = some_within ws i (omega arith)
+
+-- one passes where the first that does stands among them
+pub met_within : {A : Type 0} (p : A → Bool) (ws : List A) (i : ℕ) → i < length ws → slice_get ws i ≡ find p ws → true ≡ list_any p ws
+met_within p ws i lt at = sym (some_within ws i lt) ∙ (ap is_some at ∙ found_any p ws)
+
+-- and none where it stands behind them
+pub met_past : {A : Type 0} (p : A → Bool) (ws : List A) (i : ℕ) → length ws ≤ i → slice_get ws i ≡ find p ws → false ≡ list_any p ws
+met_past p ws i le at = ap is_some (sym (slice_get_past ws i le) ∙ at) ∙ found_any p ws
 
 -- a test of the thread's id
 abbrev pub is_of : ℕ → Party → Bool

@@ -1,8 +1,9 @@
 -- How a value passes from a thread to another, in the steps that the code takes.
-use Rattle.std.specs.Prelude.{ℕ, ◌==◌, ◌≡◌, ◌≤◌, ◌||◌, false, not, List, [], ◌∷◌, Option, Some, None, Vec, slice_index, vec_len, vec_capacity}
+use Rattle.std.specs.Prelude.{ℕ, Bool, ◌==◌, ◌≡◌, ◌≤◌, ◌||◌, false, not, drop, List, [], ◌∷◌, Option, Some, None, Vec, slice_index, vec_len, vec_capacity}
 use Rattle.std.specs.declared.alloc.Global.{Global}
-use Rattle.std.specs.List.{filter}
+use Rattle.std.specs.List.{filter, find}
 use Rattle.p9_word.specs.declared.alt.AltOp.{AltOp}
+use Rattle.p9_word.specs.declared.alt.AltOp.TheVariants.{Snd, Rcv, Nop}
 use Rattle.p9_word.specs.declared.alt.Slot.{Slot}
 use Rattle.p9_word.specs.declared.alt.AltEntry.{AltEntry}
 use Rattle.p9_word.specs.declared.answer.Answer.{Answer}
@@ -11,7 +12,7 @@ use Rattle.p9_manual.specs.declared.state.Element.{Element}
 use Rattle.p9_manual.specs.declared.state.Party.{Party}
 use Rattle.p9_manual.specs.Commit.{Deal, commit, commit_op, element}
 use Rattle.p9_manual.specs.Told.{failed_answer, sent_answer, got_answer, kept_bytes, receiver_answer, sender_answer, sender_bytes}
-use Rattle.p9_manual.specs.AltEntries.{is_nop}
+use Rattle.p9_manual.specs.AltEntries.{is_nop, sends_on, receives_on}
 use Rattle.p9_manual.specs.ReadyEntries.{ready_entries}
 use Rattle.p9_manual.specs.Alt.{parties_without}
 use Rattle.p9_manual.specs.State.{by_id}
@@ -30,6 +31,16 @@ IsUsable x e = (is_nop e.op || e.err) ≡ false → IsMade e.chan x
 abbrev pub without : Option Party → List Party → List Party
 without None waits = waits
 without (Some w) waits = filter (λ u. not (u.tid == w.tid)) waits
+
+-- nobody before this place among those that wait passes the test
+abbrev pub AreUnmet : (Party → Bool) → ℕ → List Party → Type 0
+AreUnmet p from waits = find p waits ≡ find p (drop from waits)
+
+-- the test of those that an entry with this op may meet on channel c
+abbrev pub meets : AltOp → ℕ → Party → Bool
+meets Snd c w = receives_on c w
+meets Rcv c w = sends_on c w
+meets Nop c w = false
 
 -- the caller, as far as what comes of its entry depends on it
 abbrev pub caller : Turn → Party

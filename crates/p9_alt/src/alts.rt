@@ -1,4 +1,4 @@
-ghost use Rattle.std.specs.Prelude.{◌≡◌, ◌==◌, ◌≤◌, ◌<◌, ◌∷◌, ◌++◌, [], None, not, false, true, length, map, count_by, OnOk};
+ghost use Rattle.std.specs.Prelude.{◌≡◌, ◌==◌, ◌≤◌, ◌<◌, ◌∷◌, ◌++◌, [], None, not, false, true, length, map, count_by, All, OnOk};
 ghost use Rattle.std.specs.List.{list_any, find};
 ghost use Rattle.std.specs.Option.{option_map};
 ghost use Rattle.std.specs.Borrow.{sem};
@@ -9,7 +9,7 @@ ghost use Rattle.p9_manual.specs.ReadyEntries.{fits, ready_entries};
 ghost use Rattle.p9_chan.specs.Channels.{IsMade, chan_of, is_closed_in, emptied, freed};
 ghost use Rattle.p9_alt.specs.Exchange.{others, HasMemory, NoSendOnClosed, IsIdle, AreBefore, offer_of, wake_of, chans_after, waits_after, pair_of, closed_on, shown_alt};
 ghost use Rattle.p9_alt.specs.Offered.{caller, offered};
-ghost use Rattle.p9_alt.specs.Passing.{nth_deal, IsDealt, IsLeft};
+ghost use Rattle.p9_alt.specs.Passing.{AreUnmet, meets, nth_deal, IsDealt, IsLeft};
 
 use crate::answers::fail_all;
 use crate::commit::{Done, Turn, commit};
@@ -17,7 +17,7 @@ use crate::entries::{entry_out, fits, is_closed_list};
 use crate::lists::Lists;
 use crate::offer::{Offer, Wake};
 use crate::queue::{awaiting, is_awaited};
-use crate::ready::{idle_count, most_zeros, ready_count, ready_number, zeros_for};
+use crate::ready::{most_zeros, ready_count, ready_from, ready_number, zeros_for};
 use crate::side::Side;
 use crate::zeros::Zeros;
 use p9_chan::Chans;
@@ -113,6 +113,7 @@ impl Alts {
     }
 
     /// Takes the memory for one more alt that waits, and for so many zeros.
+    #[inline(always)]
     fn make_room(&mut self, zeros: u32) -> Result<(), NoMemory>
         ensures channels { self.new.channels ≡ self.old.channels }
         ensures waits { self.new.waits ≡ self.old.waits }
@@ -187,21 +188,22 @@ impl Alts {
         if is_closed_list(me.entries.as_slice()) {
             return Offer::Closed;
         }
-        let ready = idle_count(&self.chans, &self.waits, me.tid, me.entries.as_slice());
+        let (ready, from) = ready_from(&self.chans, &self.waits, me.tid, me.entries.as_slice());
         if ready == 0 {
             return self.unready(me, ending);
         }
-        let done = self.go_on(me, w % ready);
+        let done = self.go_on(me, w % ready, from);
         *woken = done.woken;
         Offer::Done(done.answer)
     }
 
-    /// Of the caller's ready entries the one with this number goes on.
-    fn go_on(&mut self, mut me: Party, n: u32) -> Done
+    /// Of the caller's ready entries the one with this number goes on. They meet nobody who waits before `from`.
+    fn go_on(&mut self, mut me: Party, n: u32, from: usize) -> Done
         requires idle { IsIdle me.tid self.old }
         requires fits { fits self.old.channels.chans me.entries ≡ true }
         requires zeros { HasMemory me.entries self.old }
         requires within { n < length (ready_entries self.old.channels.chans self.old.waits me.entries) }
+        requires before { All (λ e. AreUnmet (meets e.op e.chan) from self.old.waits) me.entries }
         requires open { NoSendOnClosed self.old }
         ensures dealt { IsDealt (nth_deal me n self.old) result }
         ensures left { IsLeft (nth_deal me n self.old) self.old.waits self.new.channels.chans self.new.waits }
@@ -213,6 +215,7 @@ impl Alts {
             at: me.at,
             single: me.single,
             i: i as u32,
+            from,
         };
         let entry = entry_out(&mut me.entries, i);
         self.lists.keep(me.entries);

@@ -10,7 +10,7 @@ ghost use Rattle.p9_chan.specs.Channels.{IsMade, chan_of, elements_in, elsize_in
 ghost use Rattle.p9_chan.specs.Channels.{refilled as refilled_on};
 ghost use Rattle.p9_alt.specs.Exchange.{wake_with, zeros_of, zeros_for};
 ghost use Rattle.p9_alt.specs.Kept.{IsQueue};
-ghost use Rattle.p9_alt.specs.Passing.{without, deal_of, receiver_wake, receiver_woken, handed_answer, taken_answer, sender_gives, IsLess, passed_wake, passed_rest, IsDealt, IsLeft};
+ghost use Rattle.p9_alt.specs.Passing.{AreUnmet, meets, without, deal_of, receiver_wake, receiver_woken, handed_answer, taken_answer, sender_gives, IsLess, passed_wake, passed_rest, IsDealt, IsLeft};
 
 use crate::answers::{failed_answer, got_answer, receiver_answer, sender_answer, sent_answer};
 use crate::entries::{kept, value_of, value_out};
@@ -23,12 +23,14 @@ use p9_chan::{Chans, Element};
 use p9_manual::Party;
 use p9_word::{AltEntry, AltOp, Answer, Msg, Slot};
 
-/// The caller's part in what goes on: the position of its call, the form of its answers, and the number of its entry.
+/// The caller's part in what goes on: the position of its call, the form of its answers, and the number of its entry. Nobody
+/// who waits before `from` is met.
 #[derive(Clone, Copy)]
 pub(crate) struct Turn {
     pub at: u64,
     pub single: bool,
     pub i: u32,
+    pub from: usize,
 }
 
 /// What came of an alt: the caller's answer, and who is woken.
@@ -64,13 +66,14 @@ fn wake_receiver(w: Party, lists: &mut Lists, c: u32, from: u64, value: Msg) -> 
 
 /// Hands the caller's value over to the thread that waits longest to receive on channel c.
 fn hand_over(waits: &mut Vec<Party>, lists: &mut Lists, turn: Turn, c: u32, value: Msg) -> Done
-    requires { IsQueue waits.old.items }
+    requires before { AreUnmet (receives_on c) turn.from waits.old.items }
+    requires queue { IsQueue waits.old.items }
     ensures answer { result.answer ≡ handed_answer turn (find (receives_on c) waits.old.items) }
     ensures woken { result.woken ≡ receiver_woken c turn.at value (find (receives_on c) waits.old.items) }
     ensures waits { waits.new.items ≡ without (find (receives_on c) waits.old.items) waits.old.items }
     ensures less { IsLess waits.old waits.new }
 {
-    match first_out(waits, Side::Receives, c) {
+    match first_out(waits, Side::Receives, c, turn.from) {
         Some(w) => Done {
             answer: sent_answer(turn.single, turn.i),
             woken: Some(wake_receiver(w, lists, c, turn.at, value)),
@@ -80,7 +83,14 @@ fn hand_over(waits: &mut Vec<Party>, lists: &mut Lists, turn: Turn, c: u32, valu
 }
 
 /// Gives the front element of channel c to the thread that waits longest to receive there, if one does.
-fn pass_on(chans: &mut Chans, waits: &mut Vec<Party>, lists: &mut Lists, c: u32) -> Option<Wake>
+fn pass_on(
+    chans: &mut Chans,
+    waits: &mut Vec<Party>,
+    lists: &mut Lists,
+    c: u32,
+    from: usize,
+) -> Option<Wake>
+    requires before { AreUnmet (receives_on c) from waits.old.items }
     requires made { IsMade c chans.old }
     requires filled { 1 ≤ length (elements_in (chan_of c chans.old)) }
     requires queue { IsQueue waits.old.items }
@@ -90,7 +100,7 @@ fn pass_on(chans: &mut Chans, waits: &mut Vec<Party>, lists: &mut Lists, c: u32)
     ensures waits { waits.new.items ≡ without (find (receives_on c) waits.old.items) waits.old.items }
     ensures less { IsLess waits.old waits.new }
 {
-    let w = first_out(waits, Side::Receives, c)?;
+    let w = first_out(waits, Side::Receives, c, from)?;
     match chans.take(c) {
         Some(x) => Some(wake_receiver(w, lists, c, x.from, x.msg)),
         None => unreachable!(),
@@ -108,6 +118,7 @@ fn send(
 ) -> Done
     requires made { IsMade c chans.old }
     requires ready { can_go_on Snd c (chan_of c chans.old) waits.old.items ≡ true }
+    requires before { AreUnmet (receives_on c) turn.from waits.old.items }
     requires queue { IsQueue waits.old.items }
     ensures dealt { IsDealt (deal_of turn Snd (Give value) c chans.old.chans waits.old.items) result }
     ensures left { IsLeft (deal_of turn Snd (Give value) c chans.old.chans waits.old.items)
@@ -126,7 +137,7 @@ fn send(
         msg: value,
     };
     chans.put(c, element);
-    let woken = pass_on(chans, waits, lists, c);
+    let woken = pass_on(chans, waits, lists, c, turn.from);
     Done {
         answer: sent_answer(turn.single, turn.i),
         woken,
@@ -139,23 +150,25 @@ fn sender_out(
     zeros: &mut Zeros,
     lists: &mut Lists,
     c: u32,
+    from: usize,
     elsize: u32,
 ) -> Option<(Wake, Element)>
+    requires before { AreUnmet (sends_on c) from waits.old.items }
     requires zeros { zeros_of c elsize (find (sends_on c) waits.old.items) ≤ zeros.old }
     requires queue { IsQueue waits.old.items }
     ensures gives { result ≡ sender_gives c elsize (find (sends_on c) waits.old.items) }
     ensures waits { waits.new.items ≡ without (find (sends_on c) waits.old.items) waits.old.items }
     ensures less { IsLess waits.old waits.new }
 {
-    let mut w = first_out(waits, Side::Sends, c)?;
+    let mut w = first_out(waits, Side::Sends, c, from)?;
     let wake = Wake {
         tid: w.tid,
         answer: sender_answer(&w, c),
     };
-    let from = w.at;
+    let at = w.at;
     let msg = value_out(&mut w, c, elsize, zeros);
     lists.keep(w.entries);
-    Some((wake, Element { from, msg }))
+    Some((wake, Element { from: at, msg }))
 }
 
 /// Puts the value of the thread that waits longest to send on channel c, if one does.
@@ -165,7 +178,9 @@ fn refill(
     zeros: &mut Zeros,
     lists: &mut Lists,
     c: u32,
+    from: usize,
 ) -> Option<Wake>
+    requires before { AreUnmet (sends_on c) from waits.old.items }
     requires made { IsMade c chans.old }
     requires room { has_room_in (chan_of c chans.old) ≡ true }
     requires open { is_closed_in (chan_of c chans.old) ≡ true → find (sends_on c) waits.old.items ≡ None }
@@ -177,7 +192,7 @@ fn refill(
     ensures waits { waits.new.items ≡ without (find (sends_on c) waits.old.items) waits.old.items }
     ensures less { IsLess waits.old waits.new }
 {
-    let (wake, element) = sender_out(waits, zeros, lists, c, chans.elsize(c))?;
+    let (wake, element) = sender_out(waits, zeros, lists, c, from, chans.elsize(c))?;
     chans.put(c, element);
     Some(wake)
 }
@@ -192,6 +207,7 @@ fn take_over(
     elsize: u32,
     slot: Slot,
 ) -> Done
+    requires before { AreUnmet (sends_on c) turn.from waits.old.items }
     requires zeros { zeros_of c elsize (find (sends_on c) waits.old.items) ≤ zeros.old }
     requires queue { IsQueue waits.old.items }
     ensures answer { result.answer ≡ taken_answer turn c elsize slot (find (sends_on c) waits.old.items) }
@@ -199,7 +215,7 @@ fn take_over(
     ensures waits { waits.new.items ≡ without (find (sends_on c) waits.old.items) waits.old.items }
     ensures less { IsLess waits.old waits.new }
 {
-    match sender_out(waits, zeros, lists, c, elsize) {
+    match sender_out(waits, zeros, lists, c, turn.from, elsize) {
         Some((wake, x)) => Done {
             answer: got_answer(turn.single, turn.i, x.from, kept(&slot, x.msg)),
             woken: Some(wake),
@@ -218,6 +234,7 @@ fn receive(
     c: u32,
     slot: Slot,
 ) -> Done
+    requires before { AreUnmet (sends_on c) turn.from waits.old.items }
     requires made { IsMade c chans.old }
     requires open { is_closed_in (chan_of c chans.old) ≡ true → find (sends_on c) waits.old.items ≡ None }
     requires zeros { zeros_of c (elsize_in (chan_of c chans.old)) (find (sends_on c) waits.old.items) ≤ zeros.old }
@@ -229,7 +246,7 @@ fn receive(
 {
     match chans.take(c) {
         Some(x) => {
-            let woken = refill(chans, waits, zeros, lists, c);
+            let woken = refill(chans, waits, zeros, lists, c, turn.from);
             Done {
                 answer: got_answer(turn.single, turn.i, x.from, kept(&slot, x.msg)),
                 woken,
@@ -257,6 +274,7 @@ pub(crate) fn commit(
     requires made { IsMade entry.chan chans.old }
     requires live { is_live_in (chan_of entry.chan chans.old) ≡ true }
     requires ready { is_ready chans.old.chans waits.old.items entry ≡ true }
+    requires before { AreUnmet (meets entry.op entry.chan) turn.from waits.old.items }
     requires open { is_closed_in (chan_of entry.chan chans.old) ≡ true → find (sends_on entry.chan) waits.old.items ≡ None }
     requires zeros { zeros_for chans.old.chans waits.old.items entry ≤ zeros.old }
     requires queue { IsQueue waits.old.items }

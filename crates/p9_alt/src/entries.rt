@@ -122,6 +122,7 @@ pub(crate) fn zeros_in(elsize: u32, slot: &Slot) -> u32
 }
 
 /// What is sent by a slot.
+#[inline(always)]
 pub(crate) fn value_of(slot: Slot, elsize: u32, zeros: &mut Zeros) -> Msg
     requires { zeros_in elsize slot ≤ zeros.old }
     ensures { result ≡ sent_bytes elsize slot }

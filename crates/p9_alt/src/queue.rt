@@ -1,8 +1,8 @@
-ghost use Rattle.std.specs.Prelude.{◌≡◌, ◌≤◌, length, slice_get, count_by, IfSome};
+ghost use Rattle.std.specs.Prelude.{◌≡◌, ◌≤◌, length, slice_get, count_by, is_some, IfSome};
 ghost use Rattle.std.specs.List.{list_any, find};
 ghost use Rattle.p9_alt.specs.Exchange.{others};
 ghost use Rattle.p9_alt.specs.Kept.{IsQueue};
-ghost use Rattle.p9_alt.specs.Passing.{without, IsLess};
+ghost use Rattle.p9_alt.specs.Passing.{without, AreUnmet, IsLess};
 ghost use Rattle.p9_alt.specs.Sides.{party_test};
 
 use crate::side::Side;
@@ -33,11 +33,14 @@ pub(crate) fn awaiting(waits: &[Party], side: Side, c: u32) -> usize
     waits.iter().filter(|w| side.is_in(c, w)).count()
 }
 
-/// Where it stands among all that wait, counted from 0: behind them where there is none.
-fn first_index(waits: &[Party], side: Side, c: u32) -> usize
-    ensures { slice_get waits.now result ≡ find (party_test side c) waits.now }
+/// Where the first of them stands among all that wait, counted from 0: behind them where there is none. It isn't before
+/// `from`.
+fn first_index(waits: &[Party], side: Side, c: u32, from: usize) -> usize
+    requires { AreUnmet (party_test side c) from waits.now }
+    ensures first { slice_get waits.now result ≡ find (party_test side c) waits.now }
+    ensures before { AreUnmet (party_test side c) result waits.now }
 {
-    for i in 0..waits.len() {
+    for i in from..waits.len() {
         if side.is_in(c, &waits[i]) {
             return i;
         }
@@ -45,15 +48,25 @@ fn first_index(waits: &[Party], side: Side, c: u32) -> usize
     waits.len()
 }
 
-/// The thread that waits longest of those that do this on channel c. It waits no more.
-pub(crate) fn first_out(waits: &mut Vec<Party>, side: Side, c: u32) -> Option<Party>
-    requires { IsQueue waits.old.items }
+/// Where the thread stands that waits longest of those that do this on channel c, counted from 0.
+pub(crate) fn first_place(waits: &[Party], side: Side, c: u32) -> Option<usize>
+    ensures found { is_some result ≡ list_any (party_test side c) waits.now }
+    ensures before { IfSome result (λ i. AreUnmet (party_test side c) i waits.now) }
+{
+    let i = first_index(waits, side, c, 0);
+    if i < waits.len() { Some(i) } else { None }
+}
+
+/// The thread that waits longest of those that do this on channel c. It waits no more. It doesn't stand before `from`.
+pub(crate) fn first_out(waits: &mut Vec<Party>, side: Side, c: u32, from: usize) -> Option<Party>
+    requires before { AreUnmet (party_test side c) from waits.old.items }
+    requires queue { IsQueue waits.old.items }
     ensures first { result ≡ find (party_test side c) waits.old.items }
     ensures few { IfSome result (λ w. length w.entries ≤ 64) }
     ensures waits { waits.new.items ≡ without result waits.old.items }
     ensures less { IsLess waits.old waits.new }
 {
-    let i = first_index(waits, side, c);
+    let i = first_index(waits, side, c, from);
     if i < waits.len() {
         Some(waits.remove(i))
     } else {

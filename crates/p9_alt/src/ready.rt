@@ -1,14 +1,15 @@
-ghost use Rattle.std.specs.Prelude.{◌≡◌, ◌==◌, ◌<◌, ◌≤◌, All, List, true, length, slice_index, slice_get, IfSome};
+ghost use Rattle.std.specs.Prelude.{◌≡◌, ◌==◌, ◌<◌, ◌≤◌, All, List, true, length, slice_index, slice_get, is_some, IfSome};
 ghost use Rattle.p9_word.specs.declared.alt.AltOp.TheVariants.{Snd, Rcv};
 ghost use Rattle.p9_manual.specs.declared.state.Party.{Party};
+ghost use Rattle.p9_manual.specs.AltEntries.{sends_on, receives_on};
 ghost use Rattle.p9_manual.specs.ReadyEntries.{can_go_on, is_ready, ready_entries};
 ghost use Rattle.p9_manual.specs.Standing.{times};
 ghost use Rattle.p9_chan.specs.Channels.{IsMade, chan_of};
 ghost use Rattle.p9_alt.specs.Exchange.{others, zeros_for};
-ghost use Rattle.p9_alt.specs.Passing.{IsUsable};
+ghost use Rattle.p9_alt.specs.Passing.{AreUnmet, meets, IsUsable};
 
 use crate::entries::zeros_in;
-use crate::queue::is_awaited_by_other;
+use crate::queue::{first_place, is_awaited_by_other};
 use crate::side::Side;
 use p9_chan::Chans;
 use p9_manual::Party;
@@ -32,6 +33,76 @@ fn can_receive(chans: &Chans, waits: &[Party], tid: Tid, c: u32) -> bool
     !chans.is_empty(c)
         || (chans.closing(c).is_some()
             || (chans.cap(c) == 0 && is_awaited_by_other(waits, tid, Side::Sends, c)))
+}
+
+/// From which place on among those that wait a send on channel c looks for one to meet, of a thread that doesn't wait:
+/// `None` where it can't go on.
+fn send_from(chans: &Chans, waits: &[Party], c: u32) -> Option<usize>
+    requires { IsMade c chans.now }
+    ensures ready { is_some result ≡ can_go_on Snd c (chan_of c chans.now) waits.now }
+    ensures before { IfSome result (λ i. AreUnmet (receives_on c) i waits.now) }
+{
+    if chans.closing(c).is_some() || !chans.is_full(c) {
+        return Some(0);
+    }
+    if chans.cap(c) > 0 {
+        return None;
+    }
+    first_place(waits, Side::Receives, c)
+}
+
+/// The same for a receive.
+fn receive_from(chans: &Chans, waits: &[Party], c: u32) -> Option<usize>
+    requires { IsMade c chans.now }
+    ensures ready { is_some result ≡ can_go_on Rcv c (chan_of c chans.now) waits.now }
+    ensures before { IfSome result (λ i. AreUnmet (sends_on c) i waits.now) }
+{
+    if !chans.is_empty(c) || chans.closing(c).is_some() {
+        return Some(0);
+    }
+    if chans.cap(c) > 0 {
+        return None;
+    }
+    first_place(waits, Side::Sends, c)
+}
+
+/// The same for an entry: `None` where it isn't ready.
+fn entry_from(chans: &Chans, waits: &[Party], e: &AltEntry) -> Option<usize>
+    requires { IsUsable chans.now e.now }
+    ensures ready { is_some result ≡ is_ready chans.now.chans waits.now e.now }
+    ensures before { IfSome result (λ i. AreUnmet (meets e.now.op e.now.chan) i waits.now) }
+{
+    if e.err {
+        return None;
+    }
+    match e.op {
+        AltOp::Snd => send_from(chans, waits, e.chan),
+        AltOp::Rcv => receive_from(chans, waits, e.chan),
+        AltOp::Nop => None,
+    }
+}
+
+/// How many entries of a thread are ready that doesn't wait, and from which place on among those that wait they look for one
+/// to meet. For one entry alone those that wait are looked through once.
+pub(crate) fn ready_from(
+    chans: &Chans,
+    waits: &[Party],
+    tid: Tid,
+    entries: &[AltEntry],
+) -> (u32, usize)
+    requires few { length entries.now ≤ 64 }
+    requires usable { All (IsUsable chans.now) entries.now }
+    requires idle { times (λ w. w.tid == tid) waits.now ≡ 0 }
+    ensures count { result.0 ≡ length (ready_entries chans.now.chans waits.now entries.now) }
+    ensures before { All (λ e. AreUnmet (meets e.op e.chan) result.1 waits.now) entries.now }
+{
+    match entries {
+        [e] => match entry_from(chans, waits, e) {
+            Some(from) => (1, from),
+            None => (0, 0),
+        },
+        _ => (idle_count(chans, waits, tid, entries), 0),
+    }
 }
 
 /// Whether an entry of a thread is ready.
@@ -65,7 +136,7 @@ pub(crate) fn ready_count(chans: &Chans, waits: &[Party], tid: Tid, entries: &[A
 }
 
 /// The same for a thread that doesn't wait.
-pub(crate) fn idle_count(chans: &Chans, waits: &[Party], tid: Tid, entries: &[AltEntry]) -> u32
+fn idle_count(chans: &Chans, waits: &[Party], tid: Tid, entries: &[AltEntry]) -> u32
     requires few { length entries.now ≤ 64 }
     requires usable { All (IsUsable chans.now) entries.now }
     requires idle { times (λ w. w.tid == tid) waits.now ≡ 0 }

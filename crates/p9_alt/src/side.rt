@@ -1,4 +1,5 @@
 ghost use Rattle.std.specs.Prelude.{◌≡◌, ◌≤◌, length};
+ghost use Rattle.std.specs.List.{list_any};
 ghost use Rattle.p9_manual.specs.AltEntries.{first_number};
 ghost use Rattle.p9_alt.specs.Sides.{op_test, entry_test, party_test};
 
@@ -49,13 +50,22 @@ impl Side {
         entries.len()
     }
 
+    /// Whether one of these entries does.
+    #[inline(never)]
+    fn is_among(self, c: u32, entries: &[AltEntry]) -> bool
+        ensures { result ≡ list_any (entry_test self c) entries.now }
+    {
+        entries.iter().any(|e| self.passes(c, e))
+    }
+
     /// Whether a thread that waits has such an entry. Mostly it has one entry, which is looked at by itself.
+    #[inline(always)]
     pub fn is_in(self, c: u32, w: &Party) -> bool
         ensures { result ≡ party_test self c w.now }
     {
         match w.entries.as_slice() {
             [e] => self.passes(c, e),
-            entries => entries.iter().any(|e| self.passes(c, e)),
+            entries => self.is_among(c, entries),
         }
     }
 }

@@ -41,6 +41,7 @@ impl Zeros {
     }
 
     /// A message of so many zeros.
+    #[inline(never)]
     pub fn take(&mut self, n: u32) -> Msg
         requires { n ≤ self.old }
         ensures { result ≡ replicate n 0 }

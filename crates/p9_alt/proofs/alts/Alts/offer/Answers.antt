@@ -12,8 +12,8 @@ use Rattle.p9_alt.proofs.Fitting.{all_usable}
 use Rattle.p9_alt.proofs.Sends.{unsent_unready}
 use Rattle.p9_alt.proofs.alts.Alts.offer.Goals as goal
 
-pub idle_count-ready-requires-clause-usable : goal.idle_count-ready-requires-clause-usable
-idle_count-ready-requires-clause-usable c =
+pub ready_from-ready-requires-clause-usable : goal.ready_from-ready-requires-clause-usable
+ready_from-ready-requires-clause-usable c =
     let ok = subst (λ (x : Exchange). fits x.channels.chans c.args.entries ≡ true) (sym c.self.view_is) c.requires.fits in
     rw c.as_slice-2.ensures (all_usable c.self.inside.chans c.args.entries ok)
 
@@ -23,7 +23,7 @@ none_is chans waits read_waits es read n w e is none = rw (← w, ← e) (sym is
 pub returns-then-ready-eq0-clause-open : goal.returns-then-ready-eq0-clause-open
 returns-then-ready-eq0-clause-open c =
     let s = c.self.inside in
-    let off = none_is s.chans.chans s.waits.items c.deref.result.now c.args.entries c.as_slice-2.result.now c.idle_count-ready.result c.deref.ensures.value c.as_slice-2.ensures c.idle_count-ready.ensures c.if-ready-eq0.true in
+    let off = none_is s.chans.chans s.waits.items c.deref.result.now c.args.entries c.as_slice-2.result.now c.ready_from-ready.result.0 c.deref.ensures.value c.as_slice-2.ensures c.ready_from-ready.ensures.count c.if-ready-eq0.true in
     let none = subst (λ (x : Exchange). length (ready_entries x.channels.chans x.waits c.args.entries) ≡ 0) c.self.view_is off in
     let me : Party = record { tid = c.args.tid; at = c.args.at; single = c.args.single; entries = c.args.entries } in
     let h = unsent_unready c.args.ending c.args.self.now.channels.chans c.args.self.now.waits c.unready.new.self.waits me c.requires.«open» none c.unready.ensures.waits in
