@@ -101,6 +101,7 @@ impl Alts {
     }
 
     /// Takes all the memory that an offer of this entry alone may need, and that of its list. A refusal changes nothing.
+    #[inline(always)]
     pub fn reserve_one(&mut self, entry: &AltEntry) -> Result<(), NoMemory>
         ensures channels { self.new.channels ≡ self.old.channels }
         ensures waits { self.new.waits ≡ self.old.waits }

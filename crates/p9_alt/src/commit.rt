@@ -52,6 +52,7 @@ fn failed(turn: Turn) -> Done
 }
 
 /// Wakes a thread that waited to receive on channel c, with a value.
+#[inline(always)]
 fn wake_receiver(w: Party, lists: &mut Lists, c: u32, from: u64, value: Msg) -> Wake
     requires { length w.entries ≤ 64 }
     ensures { result ≡ receiver_wake c from value w }
@@ -145,6 +146,7 @@ fn send(
 }
 
 /// Wakes the thread that waits longest to send on channel c, if one does, and takes its value.
+#[inline(always)]
 fn sender_out(
     waits: &mut Vec<Party>,
     zeros: &mut Zeros,

@@ -26,6 +26,7 @@ impl Model for Lists {
 }
 
 /// A list of one entry, which is out of use.
+#[inline(never)]
 fn blank_list(alloc: Global) -> Result<Seq<AltEntry>, NoMemory>
     ensures { IfOk result (λ es. length es ≡ 1) }
 {
@@ -66,25 +67,19 @@ impl Lists {
         }
     }
 
-    /// Takes the memory, if it isn't there.
+    /// Takes the memory, if it isn't there: that of the other list, or new memory.
+    #[inline(always)]
     pub fn reserve(&mut self) -> Result<(), NoMemory>
         ensures { OnOk result (self.new ≡ true) }
     {
-        if self.one.is_none() {
-            self.one = Some(self.another()?);
+        if self.one.is_some() {
+            return Ok(());
         }
+        if self.other.is_none() {
+            self.other = Some(blank_list(self.alloc)?);
+        }
+        mem::swap(&mut self.one, &mut self.other);
         Ok(())
-    }
-
-    /// The other list, if it is there, or a new one.
-    fn another(&mut self) -> Result<Seq<AltEntry>, NoMemory>
-        ensures list { IfOk result (λ es. length es ≡ 1) }
-        ensures one { self.new ≡ self.old }
-    {
-        match self.other.take() {
-            Some(list) => Ok(list),
-            None => blank_list(self.alloc),
-        }
     }
 
     /// The list of this entry alone.

@@ -34,6 +34,7 @@ impl Zeros {
     }
 
     /// Takes memory for so many.
+    #[inline(always)]
     pub fn reserve(&mut self, n: u32) -> Result<(), NoMemory>
         ensures { OnOk result (n ≤ self.new) }
     {

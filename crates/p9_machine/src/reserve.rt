@@ -74,14 +74,15 @@ pub(crate) fn let_go(kept: &mut Option<Reserved>)
     }
 }
 
-/// Keeps what is reserved. That nothing was kept is said to the compiler, so that no old memory is read to be dropped.
+/// Keeps what is reserved. Nothing was kept, which is asked again: the compiler knows it then, and reads no old memory to be
+/// dropped.
 #[inline(always)]
 fn keep(kept: &mut Option<Reserved>, reserved: Reserved)
     requires { kept.old ≡ None }
     ensures { kept.new ≡ Some reserved }
 {
     if kept.is_some() {
-        unreachable!();
+        return forget(kept);
     }
     *kept = Some(reserved);
 }
