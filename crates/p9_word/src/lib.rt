@@ -10,6 +10,7 @@ mod answer;
 mod body;
 mod datum;
 mod io_call;
+pub mod limits;
 mod memory;
 mod msg;
 mod request;

@@ -1,5 +1,9 @@
 ghost use Rattle.std.specs.Prelude.{◌↔◌, All, IsTrue};
 
+use crate::limits::{
+    MOST_CHANNELS, MOST_ELEMENT_BYTES, MOST_ELEMENTS, MOST_FILES, MOST_LOCKS, MOST_NAME_BYTES,
+    MOST_PLACES, MOST_REFS, MOST_RENDEZES, MOST_THREADS,
+};
 use crate::{Datum, Msg, NoMemory, Seq};
 use std::alloc::Global;
 
@@ -66,7 +70,7 @@ impl ThreadSetup {
             && self.proc_no <= opened
             && 1 <= self.program
             && self.program <= programs
-            && self.name.as_slice().len() <= 64
+            && self.name.as_slice().len() <= MOST_NAME_BYTES
     }
 }
 
@@ -76,7 +80,7 @@ impl ChanSetup {
     fn is_chan(&self) -> bool
         ensures { IsTrue result ↔ IsChan self.now }
     {
-        self.cap <= 4096 && 1 <= self.elsize && self.elsize <= 65536
+        self.cap <= MOST_ELEMENTS && 1 <= self.elsize && self.elsize <= MOST_ELEMENT_BYTES
     }
 }
 
@@ -89,7 +93,7 @@ impl Setup {
         ensures { IsTrue result ↔ IsValid self.now }
     {
         1 <= self.places
-            && self.places <= 64
+            && self.places <= MOST_PLACES
             && 1 <= self.opened
             && self.opened <= self.places
             && self.has_limits()
@@ -101,15 +105,15 @@ impl Setup {
     fn has_limits(&self) -> bool
         ensures { IsTrue result ↔ HasLimits self.now }
     {
-        self.threads.len() <= 65536
-            && self.chans.len() <= 1024
-            && self.locks <= 1024
-            && self.qlocks <= 1024
-            && self.rwlocks <= 1024
-            && self.rendezes.len() <= 1024
-            && self.refs.len() <= 1024
-            && self.files <= 64
-            && self.procs <= 64
+        self.threads.len() <= MOST_THREADS
+            && self.chans.len() <= MOST_CHANNELS
+            && self.locks <= MOST_LOCKS
+            && self.qlocks <= MOST_LOCKS
+            && self.rwlocks <= MOST_LOCKS
+            && self.rendezes.len() <= MOST_RENDEZES
+            && self.refs.len() <= MOST_REFS
+            && self.files <= MOST_FILES
+            && self.procs <= MOST_PLACES
     }
 
     fn has_threads(&self) -> bool
