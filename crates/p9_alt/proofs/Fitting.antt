@@ -9,6 +9,7 @@ use Rattle.p9_word.specs.declared.alt.AltEntry.{AltEntry}
 use Rattle.p9_word.specs.declared.alt.AltOp.{AltOp}
 use Rattle.p9_word.specs.declared.alt.AltOp.TheVariants.{Snd, Rcv, Nop}
 use Rattle.p9_word.specs.declared.alt.Slot.{Slot}
+use Rattle.p9_word.specs.declared.limits.TheConstants.{MOST_ENTRIES}
 use Rattle.p9_manual.specs.declared.state.Channel.{Channel}
 use Rattle.p9_manual.specs.declared.state.Party.{Party}
 use Rattle.p9_manual.specs.AltEntries.{is_nop}
@@ -69,7 +70,7 @@ all_by P p k (e ∷ es) ok =
 -- all that fit are usable
 pub all_usable : (x : Channels) (es : List AltEntry) → fits x.chans es ≡ true → All (IsUsable x) es
 all_usable x es ok =
-    let parts = and_parts (nat_le (length es) 64) (list_all (fits_entry x.chans) es) ok in
+    let parts = and_parts (nat_le (length es) MOST_ENTRIES) (list_all (fits_entry x.chans) es) ok in
     all_by (IsUsable x) (fits_entry x.chans) (usable_entry x) es parts.1
 
 fits_itself : (chans : List Channel) (e : AltEntry) → fits_entry chans e ≡ true → fits_entry chans e ≡ true
@@ -77,7 +78,7 @@ fits_itself chans e h = h
 
 pub one_fits : (x : Channels) (es : List AltEntry) (i : ℕ) (e : AltEntry) → fits x.chans es ≡ true → slice_get es i ≡ Some e → fits_entry x.chans e ≡ true
 one_fits x es i e ok at =
-    let parts = and_parts (nat_le (length es) 64) (list_all (fits_entry x.chans) es) ok in
+    let parts = and_parts (nat_le (length es) MOST_ENTRIES) (list_all (fits_entry x.chans) es) ok in
     at_index (λ (e : AltEntry). fits_entry x.chans e ≡ true) es i e at (all_by (λ (e : AltEntry). fits_entry x.chans e ≡ true) (fits_entry x.chans) (fits_itself x.chans) es parts.1)
 
 used_by : (op : AltOp) (err : Bool) (c : ℕ) (o : Option Channel) (waits : List Party) → (not err && can_go_on op c o waits) ≡ true → (is_nop op || err) ≡ false

@@ -8,6 +8,7 @@ use Rattle.p9_word.specs.declared.alt.AltEntry.{AltEntry}
 use Rattle.p9_word.specs.declared.alt.AltOp.{AltOp}
 use Rattle.p9_word.specs.declared.alt.AltOp.TheVariants.{Snd, Rcv, Nop}
 use Rattle.p9_word.specs.declared.answer.Answer.{Answer}
+use Rattle.p9_word.specs.declared.limits.TheConstants.{MOST_ENTRIES}
 use Rattle.p9_manual.specs.declared.state.Channel.{Channel}
 use Rattle.p9_manual.specs.declared.state.Party.{Party}
 use Rattle.p9_word.specs.declared.alt.Ending.{Ending}
@@ -78,9 +79,9 @@ one_more true n le k = let h = k refl in omega arith
 one_more false n le k = omega arith
 
 -- one more waits, which didn't
-pub queue-push : (waits : List Party) (me : Party) → IsQueue waits → length me.entries ≤ 64 → times (λ w. w.tid == me.tid) waits ≡ 0 → IsQueue (waits ++ me ∷ [])
+pub queue-push : (waits : List Party) (me : Party) → IsQueue waits → length me.entries ≤ MOST_ENTRIES → times (λ w. w.tid == me.tid) waits ≡ 0 → IsQueue (waits ++ me ∷ [])
 queue-push waits me q few idle = record {
-  few = All-push (λ w. length w.entries ≤ 64) waits me q.few few;
+  few = All-push (λ w. length w.entries ≤ MOST_ENTRIES) waits me q.few few;
   apart = λ t.
       let a = times-push (is_of t) waits me in
       let h = one_more (is_of t me) (times (is_of t) waits) (q.apart t) (λ e. ap (λ (k : ℕ). times (is_of k) waits) (sym (eqb-true me.tid t e)) ∙ idle) in

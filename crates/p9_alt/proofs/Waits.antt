@@ -8,6 +8,7 @@ use Rattle.std.proofs.lemmas.Option.{slice_get_read, slice_get_past}
 use Rattle.std.specs.Prelude.{Option, Some, is_some, ◌||◌, if◌then◌else◌, ◌==◌, count_by, slice_get, remove, vec_len, vec_capacity, Vec}
 use Rattle.std.specs.List.{find, filter, list_any}
 use Rattle.std.specs.declared.alloc.Global.{Global}
+use Rattle.p9_word.specs.declared.limits.TheConstants.{MOST_ENTRIES}
 use Rattle.p9_manual.specs.declared.state.Party.{Party}
 use Rattle.p9_manual.specs.Standing.{times}
 use Rattle.p9_manual.specs.AltEntries.{waits_on}
@@ -112,7 +113,7 @@ times-filter f p (w ∷ ws) = kept_by f (p w) w (filter p ws) (times f ws) (time
 
 pub queue-filter : (p : Party → Bool) (ws : List Party) → IsQueue ws → IsQueue (filter p ws)
 queue-filter p ws q = record {
-  few = All-filter p (λ w. length w.entries ≤ 64) ws q.few;
+  few = All-filter p (λ w. length w.entries ≤ MOST_ENTRIES) ws q.few;
   apart = λ t. let h = times-filter (is_of t) p ws in let k = q.apart t in omega arith;
 }
 

@@ -1,5 +1,6 @@
 -- What the fields of the alts keep.
 use Rattle.std.specs.Prelude.{ℕ, ◌==◌, ◌+◌, ◌≤◌, All, Bool, cond, List, length, vec_len, vec_capacity}
+use Rattle.p9_word.specs.declared.limits.TheConstants.{MOST_ENTRIES}
 use Rattle.p9_manual.specs.declared.state.Party.{Party}
 use Rattle.p9_manual.specs.Standing.{times}
 use Rattle.p9_alt.specs.Exchange.{Exchange}
@@ -13,9 +14,9 @@ shown s = record { channels = s.chans; waits = s.waits.items; spare = record { w
 abbrev pub one_if : Bool → ℕ
 one_if b = cond b 1 0
 
--- no thread waits twice, and an alt has at most 64 entries
+-- no thread waits twice, and no alt has too many entries
 pub record IsQueue (waits : List Party) : Type 0 where
-  pub few : All (λ w. length w.entries ≤ 64) waits
+  pub few : All (λ w. length w.entries ≤ MOST_ENTRIES) waits
   pub apart : (t : ℕ) → times (λ w. w.tid == t) waits ≤ 1
 
 -- there is the memory for one more alt, if that was taken

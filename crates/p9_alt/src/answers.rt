@@ -9,6 +9,7 @@ use crate::entries::kept;
 use crate::offer::Wake;
 use crate::side::Side;
 use p9_manual::Party;
+use p9_word::limits::MOST_ENTRIES;
 use p9_word::{AltEntry, Answer, Msg, Room};
 
 /// A value was sent by entry i.
@@ -68,7 +69,7 @@ fn kept_at(side: Side, c: u32, entries: &[AltEntry], value: Msg) -> Msg
 
 /// The answer of a thread that waited to receive, and is sent this value on channel c.
 pub(crate) fn receiver_answer(w: &Party, c: u32, from: u64, value: Msg) -> Answer
-    requires { length w.now.entries ≤ 64 }
+    requires { length w.now.entries ≤ MOST_ENTRIES }
     ensures { result ≡ receiver_answer c from value w.now }
 {
     let entries = w.entries.as_slice();
@@ -79,7 +80,7 @@ pub(crate) fn receiver_answer(w: &Party, c: u32, from: u64, value: Msg) -> Answe
 
 /// The answer of a thread that waited to send, and whose value is taken on channel c.
 pub(crate) fn sender_answer(w: &Party, c: u32) -> Answer
-    requires { length w.now.entries ≤ 64 }
+    requires { length w.now.entries ≤ MOST_ENTRIES }
     ensures { result ≡ sender_answer c w.now }
 {
     let i = Side::Sends.first_number(c, w.entries.as_slice());
@@ -88,7 +89,7 @@ pub(crate) fn sender_answer(w: &Party, c: u32) -> Answer
 
 /// A thread that waited on channel c, which is closed now.
 fn failed_wake(w: &Party, c: u32) -> Wake
-    requires { length w.now.entries ≤ 64 }
+    requires { length w.now.entries ≤ MOST_ENTRIES }
     ensures { pair_of result ≡ failed_on c w.now }
 {
     let i = Side::Either.first_number(c, w.entries.as_slice());
@@ -100,7 +101,7 @@ fn failed_wake(w: &Party, c: u32) -> Wake
 
 /// Puts each thread that waits on channel c last into `woken`, with the answer that the channel is closed.
 pub(crate) fn fail_all(waits: &[Party], c: u32, woken: &mut Room<Wake>)
-    requires few { All (λ w. length w.entries ≤ 64) waits.now }
+    requires few { All (λ w. length w.entries ≤ MOST_ENTRIES) waits.now }
     requires spare { count_by (waits_on c) waits.now ≤ woken.old.spare }
     ensures { map pair_of woken.new.items ≡ map pair_of woken.old.items ++ all_failed c waits.now }
 {

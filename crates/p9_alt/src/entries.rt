@@ -10,6 +10,7 @@ use crate::side::Side;
 use crate::zeros::Zeros;
 use p9_chan::Chans;
 use p9_manual::Party;
+use p9_word::limits::MOST_ENTRIES;
 use p9_word::{AltEntry, AltOp, Msg, Seq, Slot};
 use std::mem;
 
@@ -91,7 +92,7 @@ fn each_fits(chans: &Chans, entries: &[AltEntry]) -> bool
 pub(crate) fn fits(chans: &Chans, entries: &[AltEntry]) -> bool
     ensures { result ≡ fits chans.now.chans entries.now }
 {
-    entries.len() <= 64 && each_fits(chans, entries)
+    entries.len() <= MOST_ENTRIES && each_fits(chans, entries)
 }
 
 /// Takes an entry out.

@@ -4,11 +4,9 @@ ghost use Rattle.p9_chan.specs.Channels.{IsMade, chan_of, elements_in, cap_in, e
 use crate::stored::Stored;
 use p9_manual::Element;
 use p9_word::NoMemory;
+use p9_word::limits::MOST_CHANNELS;
 use std::alloc::Global;
 use std::marker::Model;
-
-/// The most channels that are made.
-const LIMIT: usize = 1024;
 
 /// The channels of a machine, by their ids from 1 on. thread(2).
 ///
@@ -54,7 +52,7 @@ impl Chans {
         ensures err { OnErr result (self.new ≡ self.old) }
     {
         let next = Stored::new(self.alloc, cap)?;
-        if self.stored.len() < LIMIT {
+        if self.stored.len() < MOST_CHANNELS {
             self.stored.reserve(1)?;
         }
         self.next = Some(next);
@@ -62,14 +60,15 @@ impl Chans {
     }
 
     /// Makes a channel of this capacity, whose elements have at most so many bytes, in the memory that a reserve of
-    /// this capacity took. The answer is its id; ids count from 1, and none is used again. `None` exactly where 1,024
-    /// were made, and then nothing changes. chancreate in thread(2).
+    /// this capacity took. The answer is its id; ids count from 1, and none is used again. `None` exactly where
+    /// [`MOST_CHANNELS`] were made, and then nothing changes. chancreate in thread(2).
     pub fn make(&mut self, cap: u32, elsize: u32) -> Option<u32>
         requires { self.old.room ≡ Some cap }
-        ensures made { MatchOption result ((1024 ≤ length self.old.chans) × (self.new ≡ self.old))
-            (λ id. (length self.old.chans + 1 ≤ 1024) × (id ≡ length self.old.chans + 1) × (self.new ≡ with_new cap elsize self.old)) }
+        ensures made { MatchOption result ((MOST_CHANNELS ≤ length self.old.chans) × (self.new ≡ self.old))
+            (λ id. (length self.old.chans + 1 ≤ MOST_CHANNELS) × (id ≡ length self.old.chans + 1)
+            × (self.new ≡ with_new cap elsize self.old)) }
     {
-        if LIMIT <= self.stored.len() {
+        if MOST_CHANNELS <= self.stored.len() {
             return None;
         }
         match self.next.take() {

@@ -2,6 +2,7 @@
 use Rattle.std.proofs.Common.{◌≡◌, ℕ, zero, suc, ◌-◌, Bool, true, false, cond, ◌&&◌, ◌||◌, List, [], ◌∷◌, ◌++◌, length, map, Option, Some, None, refl, ap, sym, ◌∙◌}
 use Rattle.std.specs.Prelude.{option_map, slice_get, nat_lt, nat_le}
 use Rattle.std.specs.List.{list_all}
+use Rattle.p9_word.specs.declared.limits.TheConstants.{MOST_ENTRIES}
 use Rattle.p9_word.specs.declared.alt.AltEntry.{AltEntry}
 use Rattle.p9_manual.specs.declared.state.Channel.{Channel}
 use Rattle.p9_manual.specs.declared.state.Element.{Element}
@@ -142,7 +143,7 @@ all_same p q same (x ∷ xs) = rw (same x, all_same p q same xs) refl
 -- the same entries may be asked for
 pub alike_fits : (a b : List Channel) (entries : List AltEntry) → AreAlike a b → fits a entries ≡ fits b entries
 alike_fits a b entries h =
-    ap (λ all. nat_le (length entries) 64 && all) (all_same (fits_entry a) (fits_entry b) (fits_entry_alike a b h) entries)
+    ap (λ all. nat_le (length entries) MOST_ENTRIES && all) (all_same (fits_entry a) (fits_entry b) (fits_entry_alike a b h) entries)
 
 shown_push : (xs : List Channel) (x : Channel) → shown_chans (xs ++ x ∷ []) ≡ shown_chans xs ++ emptied_chan x ∷ []
 shown_push [] x = refl

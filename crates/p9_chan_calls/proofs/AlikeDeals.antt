@@ -2,6 +2,7 @@
 use Rattle.std.proofs.Common.{◌≡◌, ℕ, zero, suc, ◌+◌, ◌<◌, Bool, true, false, not, cond, ◌&&◌, ◌||◌, List, [], ◌∷◌, ◌++◌, length, get_or, Option, Some, None, refl, ap, sym, ◌∙◌, arith, rules, tests}
 use Rattle.std.specs.Prelude.{slice_get, nat_le}
 use Rattle.std.specs.List.{list_all, find}
+use Rattle.p9_word.specs.declared.limits.TheConstants.{MOST_ENTRIES}
 use Rattle.p9_word.specs.declared.alt.AltEntry.{AltEntry}
 use Rattle.p9_word.specs.declared.alt.AltOp.{AltOp}
 use Rattle.p9_word.specs.declared.alt.AltOp.TheVariants.{Snd, Rcv, Nop}
@@ -53,7 +54,7 @@ ready_from a b waits h (e ∷ es) i f =
     numbers_alike (is_ready a waits) (is_ready b waits) i e _ _ (entry_ready a b waits h e (all_head (fits_entry a) e es f)) (ready_from a b waits h es (suc i) (all_tail (fits_entry a) e es f))
 
 all_fit : (a : List Channel) (entries : List AltEntry) → fits a entries ≡ true → list_all (fits_entry a) entries ≡ true
-all_fit a entries h = and_right (nat_le (length entries) 64) _ h
+all_fit a entries h = and_right (nat_le (length entries) MOST_ENTRIES) _ h
 
 -- the same entries are ready
 pub alike_ready : (a b : List Channel) (waits : List Party) (entries : List AltEntry) → AreAlike a b → fits a entries ≡ true → ready_entries a waits entries ≡ ready_entries b waits entries

@@ -2,6 +2,7 @@
 use Rattle.std.proofs.Common.{◌≡◌, ℕ, ◌-◌, ◌+◌, Bool, true, false, cond, List, [], ◌∷◌, ◌++◌, length, Option, Some, None, refl, ap, sym, ◌∙◌}
 use Rattle.std.specs.Prelude.{nat_le}
 use Rattle.rand_pcg.specs.Lcg.{Lcg}
+use Rattle.p9_word.specs.declared.limits.TheConstants.{MOST_CHANNELS}
 use Rattle.p9_word.specs.declared.answer.Answer.{Answer}
 use Rattle.p9_word.specs.declared.answer.Answer.TheVariants.{Bad, Done, Number, Minus}
 use Rattle.p9_word.specs.declared.setup.Setup.{Setup}
@@ -91,20 +92,20 @@ full_if b o p e = rw e refl
 room_if : (b : Bool) (o p : Outcome) → b ≡ false → cond b o p ≡ p
 room_if b o p e = rw e refl
 
--- 1,024 were made
-pub create_full : (cap elsize : ℕ) (old : Exchange) → is_no_size cap elsize ≡ false → nat_le 1024 (length old.channels.chans) ≡ true → ServesAlone (create_channel cap elsize) (Now Minus) old old
+-- no more may be made
+pub create_full : (cap elsize : ℕ) (old : Exchange) → is_no_size cap elsize ≡ false → nat_le MOST_CHANNELS (length old.channels.chans) ≡ true → ServesAlone (create_channel cap elsize) (Now Minus) old old
 create_full cap elsize old h full setup sched generator s p =
     let long = alike_length old.channels.chans s.chans p.channels.chans in
-    let f : nat_le 1024 (length s.chans) ≡ true = ap (nat_le 1024) (sym long) ∙ full in
-    serves_now Minus setup sched old generator s _ (room_if (is_no_size cap elsize) _ _ h ∙ full_if (nat_le 1024 (length s.chans)) _ _ f) p
+    let f : nat_le MOST_CHANNELS (length s.chans) ≡ true = ap (nat_le MOST_CHANNELS) (sym long) ∙ full in
+    serves_now Minus setup sched old generator s _ (room_if (is_no_size cap elsize) _ _ h ∙ full_if (nat_le MOST_CHANNELS (length s.chans)) _ _ f) p
 
 -- it is made
-pub create_made : (cap elsize id : ℕ) (old new : Exchange) → is_no_size cap elsize ≡ false → nat_le 1024 (length old.channels.chans) ≡ false → id ≡ length old.channels.chans + 1 → new ≡ record old { channels = with_new cap elsize old.channels } → ServesAlone (create_channel cap elsize) (Now (Number id)) old new
+pub create_made : (cap elsize id : ℕ) (old new : Exchange) → is_no_size cap elsize ≡ false → nat_le MOST_CHANNELS (length old.channels.chans) ≡ false → id ≡ length old.channels.chans + 1 → new ≡ record old { channels = with_new cap elsize old.channels } → ServesAlone (create_channel cap elsize) (Now (Number id)) old new
 create_made cap elsize id old new h few e n setup sched generator s p =
     let long = alike_length old.channels.chans s.chans p.channels.chans in
-    let f : nat_le 1024 (length s.chans) ≡ false = ap (nat_le 1024) (sym long) ∙ few in
+    let f : nat_le MOST_CHANNELS (length s.chans) ≡ false = ap (nat_le MOST_CHANNELS) (sym long) ∙ few in
     let i : id ≡ length s.chans + 1 = e ∙ ap (λ (k : ℕ). k + 1) long in
-    let o = room_if (is_no_size cap elsize) _ _ h ∙ room_if (nat_le 1024 (length s.chans)) _ _ f in
+    let o = room_if (is_no_size cap elsize) _ _ h ∙ room_if (nat_le MOST_CHANNELS (length s.chans)) _ _ f in
     rw (n, i) (serves_chans (Number (length s.chans + 1)) (s.chans ++ empty_channel cap elsize ∷ []) setup sched old (record old { channels = with_new cap elsize old.channels }) generator s _ o refl (alike_push old.channels.chans s.chans (empty_channel cap elsize) p.channels.chans) p)
 
 -- no such channel is there to be freed

@@ -14,13 +14,14 @@ use crate::memory::Spare;
 use crate::wakes::wake_all;
 use p9_alt::Alts;
 use p9_sched::Sched;
+use p9_word::limits::{MOST_ELEMENT_BYTES, MOST_ELEMENTS};
 use p9_word::{Answer, Reply};
 
 /// Whether a channel can't have this capacity and element size.
 pub(crate) fn is_no_size(cap: u32, elsize: u32) -> bool
     ensures { result ≡ is_no_size cap elsize }
 {
-    cap > 4096 || elsize == 0 || elsize > 65536
+    cap > MOST_ELEMENTS || elsize == 0 || elsize > MOST_ELEMENT_BYTES
 }
 
 /// Makes a channel. There is memory for it.

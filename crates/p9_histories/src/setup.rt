@@ -3,6 +3,7 @@ ghost use Rattle.p9_machine.specs.Plain.{IsPlain};
 
 use crate::fault::Fault;
 use crate::words::Words;
+use p9_word::limits::{MOST_CHANNELS, MOST_REFS, MOST_THREADS};
 use p9_word::{ChanSetup, Msg, NoMemory, Room, Seq, Setup, ThreadSetup};
 use std::alloc::Global;
 
@@ -75,7 +76,7 @@ fn setup_of(
 /// How many threads there are. More than a run can have are refused before memory is taken for them.
 fn thread_count(words: &mut Words) -> Result<u32, Fault> {
     let count = words.id_after("threads", 1)?;
-    if count > 65536 {
+    if count as usize > MOST_THREADS {
         Err(Fault::ManyThreads)
     } else {
         Ok(count)
@@ -99,7 +100,7 @@ fn threads(alloc: Global, count: u32) -> Result<Seq<ThreadSetup>, NoMemory> {
 
 fn channels(alloc: Global, words: &mut Words) -> Result<Seq<ChanSetup>, Fault> {
     let mut channels = Room::new(alloc);
-    for _ in 0..1024 {
+    for _ in 0..MOST_CHANNELS {
         if !words.takes("chan") {
             break;
         }
@@ -119,7 +120,7 @@ fn last_refs(alloc: Global, words: &mut Words) -> Result<Seq<u64>, Fault> {
 
 fn refs(alloc: Global, words: &mut Words) -> Result<Seq<u64>, Fault> {
     let mut refs = Room::new(alloc);
-    for _ in 0..1024 {
+    for _ in 0..MOST_REFS {
         if !words.takes("ref") {
             break;
         }

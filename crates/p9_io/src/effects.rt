@@ -3,6 +3,7 @@ ghost use Rattle.std.specs.Bool.{OnTrue};
 ghost use Rattle.p9_manual.specs.Effects.{fits, got, room_for};
 ghost use Rattle.p9_manual.specs.Ioprocs.{effect_answer};
 
+use p9_word::limits::MOST_READ_BYTES;
 use p9_word::{Effect, IoAnswer, IoCall, Msg, Room, Tid};
 use std::alloc::Global;
 use std::mem;
@@ -21,7 +22,13 @@ pub(crate) fn room_for(call: &IoCall) -> usize
     ensures { result ≡ room_for call.now }
 {
     match call {
-        IoCall::IoReadN(n) => { if *n > 65536 { 65536 } else { *n as usize } }
+        IoCall::IoReadN(n) => {
+            if *n > MOST_READ_BYTES {
+                MOST_READ_BYTES as usize
+            } else {
+                *n as usize
+            }
+        }
         _ => 0,
     }
 }
@@ -38,7 +45,7 @@ pub(crate) fn fits(call: &IoCall, effect: &Effect) -> bool
         (IoCall::IoClose, Effect::Refused) => true,
         (IoCall::IoReadN(n), Effect::Got { bytes, .. }) => {
             let len = bytes.as_slice().len();
-            len <= *n as usize && len <= 65536
+            len <= *n as usize && len <= MOST_READ_BYTES as usize
         }
         (IoCall::IoReadN(_), Effect::Refused) => true,
         (IoCall::IoWrite(bytes), Effect::Wrote { count, failed }) => {

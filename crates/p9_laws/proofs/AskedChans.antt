@@ -2,6 +2,7 @@
 -- them does.
 use Rattle.std.proofs.Common.{◌≡◌, ℕ, ◌+◌, Bool, true, false, cond, [], ◌∷◌, ◌++◌, length, Option, Some, None, ◌-◌, refl}
 use Rattle.std.specs.Prelude.{nat_le}
+use Rattle.p9_word.specs.declared.limits.TheConstants.{MOST_CHANNELS}
 use Rattle.p9_word.specs.declared.answer.Answer.{Answer}
 use Rattle.p9_word.specs.declared.answer.Answer.TheVariants.{Done, Number}
 use Rattle.p9_word.specs.declared.request.ChanReq.{ChanReq}
@@ -34,7 +35,7 @@ unfreed_is (Some x) chan e = unfreed_step x.freed x chan e
 
 create_channel_does : (cap elsize : ℕ) (s : State) → DoesToChans s (create_channel cap elsize s)
 create_channel_does cap elsize s =
-    if_does s (is_no_size cap elsize) _ _ (Tells _) (if_does s (nat_le 1024 (length s.chans)) _ _ (Tells _) (MakesChannel cap elsize))
+    if_does s (is_no_size cap elsize) _ _ (Tells _) (if_does s (nat_le MOST_CHANNELS (length s.chans)) _ _ (Tells _) (MakesChannel cap elsize))
 
 free_does : (c : ℕ) (s : State) (o : Option Channel) → ((chan : Channel) → o ≡ Some chan → by_id s.chans c ≡ Some chan) → DoesToChans s (free c s o)
 free_does c s None there = Tells _

@@ -2,6 +2,7 @@
 use Rattle.std.proofs.Common.{◌≡◌, ℕ, ◌-◌, ◌≤◌, Bool, true, false, not, cond, ◌&&◌, ◌||◌, eqb, ltb, List, length, Option, Some, None, refl, ap, subst, ◌∙◌, arith, rules, tests}
 use Rattle.std.specs.List.{list_any}
 use Rattle.std.proofs.lemmas.Bool.{ltb-false, eqb-false, le-leb}
+use Rattle.p9_word.specs.declared.limits.TheConstants.{MOST_READ_BYTES}
 use Rattle.p9_word.specs.declared.io_call.IoCall.{IoCall}
 use Rattle.p9_word.specs.declared.io_call.IoCall.TheVariants.{IoOpen, IoReadN, IoWrite, IoClose}
 use Rattle.p9_word.specs.declared.io_call.Effect.{Effect}
@@ -111,7 +112,7 @@ fits_true IoOpen Opened h = refl
 fits_true IoOpen Refused h = refl
 fits_true IoClose Shut h = refl
 fits_true IoClose Refused h = refl
-fits_true (IoReadN n) (Got failed bytes) h = both_true _ _ (le-leb (length bytes) n h.0) (le-leb (length bytes) 65536 h.1)
+fits_true (IoReadN n) (Got failed bytes) h = both_true _ _ (le-leb (length bytes) n h.0) (le-leb (length bytes) MOST_READ_BYTES h.1)
 fits_true (IoReadN n) Refused h = refl
 fits_true (IoWrite m) (Wrote count failed) h = both_true _ _ (le-leb count (length m) h.0) (fits_whole failed count (length m) h.1)
 fits_true (IoWrite m) Refused h = refl

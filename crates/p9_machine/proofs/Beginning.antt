@@ -4,6 +4,7 @@ use Rattle.std.specs.Prelude.{◌==◌, ◌&&◌, slice_get, nat_lt, All, get_or
 use Rattle.std.proofs.lemmas.List.{length-map, length-take-le, take_more}
 use Rattle.rand_pcg.specs.Lcg.{started, increment_of, state_after}
 use Rattle.rand_pcg.specs.Pcg.{multiplier_64}
+use Rattle.p9_word.specs.declared.limits.TheConstants.{MOST_THREADS}
 use Rattle.p9_word.specs.Setup.{IsThreadOf, IsValid}
 use Rattle.p9_word.specs.declared.setup.Setup.{Setup}
 use Rattle.p9_word.specs.declared.setup.ThreadSetup.{ThreadSetup}
@@ -145,10 +146,10 @@ place_of_first setup items i ys s x same lt is valid first =
     let e = first.count in
     record { from = p.from; to = omega (arith, p.to, o.to) }
 
-pub few_first : (setup : Setup) (items : List ThreadSetup) (i : ℕ) (s : Schedule) → items ≡ setup.threads → i < length items → IsValid setup → SchedFor setup.places s (first_state setup (take i items)) → length s.threads < 65536
+pub few_first : (setup : Setup) (items : List ThreadSetup) (i : ℕ) (s : Schedule) → items ≡ setup.threads → i < length items → IsValid setup → SchedFor setup.places s (first_state setup (take i items)) → length s.threads < MOST_THREADS
 few_first setup items i s same lt valid first =
     let le : i ≤ length items = omega arith in
-    let few : length items ≤ 65536 = rw same valid.limits.threads in
+    let few : length items ≤ MOST_THREADS = rw same valid.limits.threads in
     let e : length s.threads ≡ i = ap length (sym first.threads) ∙ (length-map (take i items) new_thread ∙ length-take-le i items le) in
     omega arith
 

@@ -16,6 +16,7 @@ use p9_alt::Alts;
 use p9_io::IoBoard;
 use p9_lock::Locks;
 use p9_sched::Sched;
+use p9_word::limits::{MOST_CHANNELS, MOST_THREADS};
 use p9_word::{ChanSetup, Datum, NoMemory, Setup, ThreadSetup};
 use rand_pcg::Pcg32;
 use std::alloc::Global;
@@ -23,7 +24,7 @@ use std::alloc::Global;
 /// Makes a thread that stands at the start, last in the line.
 fn add_first(sched: &mut Sched, setup: &ThreadSetup) -> Result<(), NoMemory>
     requires place { IsPlace setup.now.proc_no sched.old }
-    requires few { length sched.old.threads < 65536 }
+    requires few { length sched.old.threads < MOST_THREADS }
     ensures { OnOk result (StandsFirst setup.now sched.old sched.new) }
 {
     let name = setup.name.copy()?;
@@ -48,7 +49,7 @@ fn begin_sched(alloc: Global, setup: &Setup) -> Result<Sched, NoMemory>
 
 /// Makes a channel of the setup.
 fn add_channel(alts: &mut Alts, setup: &ChanSetup) -> Result<(), NoMemory>
-    requires { length alts.old.channels.chans + 1 ≤ 1024 }
+    requires { length alts.old.channels.chans + 1 ≤ MOST_CHANNELS }
     ensures chans { OnOk result (alts.new.channels.chans ≡ alts.old.channels.chans ++ new_channel setup.now ∷ []) }
     ensures waits { alts.new.waits ≡ alts.old.waits }
 {
@@ -60,7 +61,7 @@ fn add_channel(alts: &mut Alts, setup: &ChanSetup) -> Result<(), NoMemory>
 
 /// These channels, and nobody waits.
 fn begin_channels(alloc: Global, setups: &[ChanSetup]) -> Result<Alts, NoMemory>
-    requires { length setups.now ≤ 1024 }
+    requires { length setups.now ≤ MOST_CHANNELS }
     ensures chans { IfOk result (λ a. a.channels.chans ≡ map new_channel setups.now) }
     ensures waits { IfOk result (λ a. a.waits ≡ []) }
 {

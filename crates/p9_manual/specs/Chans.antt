@@ -1,5 +1,6 @@
 -- The requests on channels. thread(2).
 use Rattle.std.specs.Prelude.{ℕ, ◌+◌, ◌||◌, ◌==◌, Bool, false, [], ◌∷◌, ◌++◌, Option, Some, None, if◌then◌else◌, nat_lt, nat_le, length}
+use Rattle.p9_word.specs.declared.limits.TheConstants.{MOST_CHANNELS, MOST_ELEMENTS, MOST_ELEMENT_BYTES}
 use Rattle.p9_word.specs.declared.answer.Answer.TheVariants.{Number, Minus}
 use Rattle.p9_word.specs.declared.request.Request.TheVariants.{Chan as ChanRequest}
 use Rattle.p9_word.specs.declared.request.ChanReq.{ChanReq}
@@ -12,19 +13,19 @@ use Rattle.p9_manual.specs.Alt.{alt}
 use Rattle.p9_manual.specs.Close.{close, free, closing}
 use Rattle.p9_manual.specs.State.{State, Outcome, by_id, bad, now}
 
--- a capacity is 0 to 4,096, and an element has at most 1 to 65,536 bytes
+-- a channel can't have this capacity, or elements of so many bytes at most: there must be one byte or more
 abbrev pub is_no_size : ℕ → ℕ → Bool
-is_no_size cap elsize = nat_lt 4096 cap || (elsize == 0 || nat_lt 65536 elsize)
+is_no_size cap elsize = nat_lt MOST_ELEMENTS cap || (elsize == 0 || nat_lt MOST_ELEMENT_BYTES elsize)
 
 -- an open channel without elements
 abbrev pub empty_channel : ℕ → ℕ → Channel
 empty_channel cap elsize = record { cap = cap; elsize = elsize; closed = false; freed = false; elements = [] }
 
--- a channel is made, with the next id, unless 1,024 were
+-- a channel is made, with the next id, unless as many were made as there can be
 abbrev pub create_channel : ℕ → ℕ → State → Outcome
 create_channel cap elsize s =
     if is_no_size cap elsize then bad s
-    else if nat_le 1024 (length s.chans) then now Minus s
+    else if nat_le MOST_CHANNELS (length s.chans) then now Minus s
     else now (Number (length s.chans + 1)) (record s { chans = s.chans ++ empty_channel cap elsize ∷ [] })
 
 -- the requests that make channels, free and close them

@@ -1,5 +1,6 @@
 -- How threads and procs are made. threadcreate and proccreate in thread(2).
 use Rattle.std.specs.Prelude.{ℕ, ◌+◌, ◌==◌, ◌||◌, Bool, not, false, [], ◌∷◌, ◌++◌, length, if◌then◌else◌, nat_lt}
+use Rattle.p9_word.specs.declared.limits.TheConstants.{MOST_THREADS}
 use Rattle.p9_word.specs.declared.answer.Answer.TheVariants.{Number, Minus}
 use Rattle.p9_word.specs.declared.setup.Setup.{Setup}
 use Rattle.p9_manual.specs.declared.state.Place.TheVariants.{New}
@@ -16,9 +17,9 @@ abbrev pub with_thread : ℕ → ℕ → ℕ → ℕ → State → State
 with_thread p program arg group s =
     record s { threads = s.threads ++ fresh p program arg group ∷ []; line = s.line ++ (length s.threads + 1) ∷ [] }
 
--- 65,536 threads were made
+-- as many threads were made as there can be
 abbrev pub is_full : State → Bool
-is_full s = not (nat_lt (length s.threads) 65536)
+is_full s = not (nat_lt (length s.threads) MOST_THREADS)
 
 -- the setup has no such program
 abbrev pub is_no_program : Setup → ℕ → Bool

@@ -1,5 +1,6 @@
 -- What a call through an ioproc may come to. ioproc(2) has the calls; which effects fit is this project's own.
 use Rattle.std.specs.Prelude.{ℕ, ◌≡◌, ◌≤◌, ◌==◌, ◌&&◌, ◌||◌, Bool, true, false, List, [], length, take, if◌then◌else◌, nat_lt, nat_le}
+use Rattle.p9_word.specs.declared.limits.TheConstants.{MOST_READ_BYTES}
 use Rattle.p9_word.specs.declared.io_call.IoCall.{IoCall}
 use Rattle.p9_word.specs.declared.io_call.IoCall.TheVariants.{IoOpen, IoReadN, IoWrite, IoClose}
 use Rattle.p9_word.specs.declared.io_call.Effect.{Effect}
@@ -40,7 +41,7 @@ fitting (IoWrite m) (Got failed bytes) = Never
 abbrev pub IsFitting : Fitting → Type 0
 IsFitting Never = ⊥
 IsFitting Always = Unit {0}
-IsFitting (Reads count most) = (count ≤ most) × (count ≤ 65536)
+IsFitting (Reads count most) = (count ≤ most) × (count ≤ MOST_READ_BYTES)
 IsFitting (Writes count all failed) = (count ≤ all) × (failed ≡ false → count ≡ all)
 
 -- the effect fits the call
@@ -51,7 +52,7 @@ Fits call effect = IsFitting (fitting call effect)
 abbrev pub is_fitting : Fitting → Bool
 is_fitting Never = false
 is_fitting Always = true
-is_fitting (Reads count most) = nat_le count most && nat_le count 65536
+is_fitting (Reads count most) = nat_le count most && nat_le count MOST_READ_BYTES
 is_fitting (Writes count all failed) = nat_le count all && (failed || count == all)
 
 -- the effect fits the call, as a test
@@ -87,7 +88,7 @@ put IoClose effect = []
 
 -- the room that the bytes of a call may need
 abbrev pub room_for : IoCall → ℕ
-room_for (IoReadN n) = if nat_lt 65536 n then 65536 else n
+room_for (IoReadN n) = if nat_lt MOST_READ_BYTES n then MOST_READ_BYTES else n
 room_for IoOpen = 0
 room_for (IoWrite m) = 0
 room_for IoClose = 0

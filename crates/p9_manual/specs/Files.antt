@@ -1,6 +1,7 @@
 -- How a file behaves: what one service of it may do, and what a list of services shows of it.
 -- All of this is this project's own.
 use Rattle.std.specs.Prelude.{ℕ, ◌≡◌, ◌==◌, ◌||◌, Bool, true, false, not, List, [], ◌∷◌, ◌++◌, nat_lt}
+use Rattle.p9_word.specs.declared.limits.TheConstants.{MOST_READ_BYTES}
 use Rattle.p9_word.specs.declared.io_call.IoCall.{IoCall}
 use Rattle.p9_word.specs.declared.io_call.IoCall.TheVariants.{IoOpen, IoReadN, IoWrite, IoClose}
 use Rattle.p9_word.specs.declared.io_call.Effect.{Effect}
@@ -25,11 +26,11 @@ after at (Wrote count failed) = at
 after at Refused = at
 
 -- whether a file of this direction refuses a call: a call of the other direction, a read or a write while it is
--- shut, and a read of no bytes or of more than 65536
+-- shut, and a read of no bytes or of more than a call reads
 abbrev pub refuses : Bool → Bool → IoCall → Bool
 refuses out is_open IoOpen = false
 refuses out is_open IoClose = false
-refuses out is_open (IoReadN n) = out || not is_open || n == 0 || nat_lt 65536 n
+refuses out is_open (IoReadN n) = out || not is_open || n == 0 || nat_lt MOST_READ_BYTES n
 refuses out is_open (IoWrite m) = not out || not is_open
 
 -- the effect is Refused

@@ -1,6 +1,7 @@
 -- Which entries of an alt can go on at once, and which alts may be asked for. alt in thread(2).
 use Rattle.std.specs.Prelude.{ℕ, suc, ◌==◌, ◌&&◌, ◌||◌, Bool, true, false, not, List, [], ◌∷◌, Option, Some, None, if◌then◌else◌, nat_lt, nat_le, length}
 use Rattle.std.specs.List.{list_any, list_all}
+use Rattle.p9_word.specs.declared.limits.TheConstants.{MOST_ENTRIES}
 use Rattle.p9_word.specs.declared.alt.AltOp.{AltOp}
 use Rattle.p9_word.specs.declared.alt.AltOp.TheVariants.{Snd, Rcv, Nop}
 use Rattle.p9_word.specs.declared.alt.Slot.{Slot}
@@ -84,6 +85,6 @@ fits_channel slot (Some chan) = not (is_too_long chan.elsize slot)
 abbrev pub fits_entry : List Channel → AltEntry → Bool
 fits_entry chans e = goes_with e.op e.slot && (is_nop e.op || (e.err || fits_channel e.slot (unfreed (by_id chans e.chan))))
 
--- the entries may be asked for: there are at most 64, and each fits
+-- the entries may be asked for: there aren't too many, and each fits
 abbrev pub fits : List Channel → List AltEntry → Bool
-fits chans entries = nat_le (length entries) 64 && list_all (fits_entry chans) entries
+fits chans entries = nat_le (length entries) MOST_ENTRIES && list_all (fits_entry chans) entries

@@ -1,5 +1,6 @@
 -- The requests on threads: their ids, procs, groups, names and words. thread(2).
 use Rattle.std.specs.Prelude.{ℕ, ◌-◌, ◌==◌, ◌||◌, Bool, List, Option, Some, None, length, if◌then◌else◌, nat_lt}
+use Rattle.p9_word.specs.declared.limits.TheConstants.{MOST_NAME_BYTES}
 use Rattle.p9_word.specs.declared.answer.Answer.TheVariants.{Done, Number, Text}
 use Rattle.p9_word.specs.declared.trail.Reply.TheVariants.{Ended as EndedReply}
 use Rattle.p9_word.specs.declared.request.ThreadReq.{ThreadReq}
@@ -30,9 +31,9 @@ with_word word thread = record thread { word = word }
 abbrev pub with_proc_word : ℕ → Proc → Proc
 with_proc_word word proc = record proc { word = word }
 
--- a name has 1 to 64 bytes
+-- a name has one byte or more, and not too many
 abbrev pub is_no_name : List ℕ → Bool
-is_no_name name = length name == 0 || nat_lt 64 (length name)
+is_no_name name = length name == 0 || nat_lt MOST_NAME_BYTES (length name)
 
 -- a thread is given a name, unless that has no bytes or too many
 abbrev pub set_name : ℕ → List ℕ → State → Outcome

@@ -1,5 +1,7 @@
 -- Files in memory: their contents, the failures planned, the room of a sink, and the calls that failed.
 use Rattle.std.specs.Prelude.{ℕ, ◌≡◌, ◌⊎◌, ◌++◌, List, [], ◌∷◌, true, false, Option, Some, None, cond, bytes_eq}
+use Rattle.p9_word.specs.declared.limits.TheConstants.{BLOCK_BYTES}
+use Rattle.p9_outside.specs.declared.memory.files.TheConstants.{ROOM}
 use Rattle.p9_outside.specs.declared.memory.files.Held.{Held}
 use Rattle.p9_outside.specs.declared.memory.files.MemFiles.{MemFiles}
 use Rattle.p9_outside.specs.declared.memory.plans.Plan.{Plan}
@@ -36,9 +38,9 @@ pub record Parts : Type 0 where
 abbrev pub parts_of : MemFiles → Parts
 parts_of f = record { held = f.held.items; plans = f.plans.items; room = f.room; faults = f.faults }
 
--- no contents, nothing planned, and room for 1048576 bytes
+-- no contents, nothing planned, and the room that no call has set
 abbrev pub no_files : Parts
-no_files = record { held = []; plans = []; room = 1048576; faults = 0 }
+no_files = record { held = []; plans = []; room = ROOM; faults = 0 }
 
 -- the contents by path, which are told
 abbrev pub contents_of : MemFiles → Told
@@ -66,19 +68,19 @@ pub record KeepsPlans (old new : MemFiles) : Type 0 where
   pub room : (parts_of new).room ≡ (parts_of old).room
   pub faults : (parts_of new).faults ≡ (parts_of old).faults
 
--- a new source of a path: at most 8192 bytes a read, with the failures planned
+-- a new source of a path: at most a block a read, with the failures planned
 pub record IsSourceOf (parts : Parts) (path : List ℕ) (s : MemSource) : Type 0 where
   pub left : found parts.held path ≡ Some (source_left s)
-  pub most : source_most s ≡ 8192
+  pub most : source_most s ≡ BLOCK_BYTES
   pub fails : source_fails s ≡ numbers true parts.plans path
   pub calls : source_calls s ≡ 0
   pub faults : source_faults s ≡ 0
 
--- a new sink of a path: at most 8192 bytes a write, with the room and the failures planned
+-- a new sink of a path: at most a block a write, with the room and the failures planned
 pub record IsSinkOf (parts : Parts) (path : List ℕ) (s : MemSink) : Type 0 where
   pub held : sink_held s ≡ []
   pub room : sink_room s ≡ parts.room
-  pub most : sink_most s ≡ 8192
+  pub most : sink_most s ≡ BLOCK_BYTES
   pub fails : sink_fails s ≡ numbers false parts.plans path
   pub calls : sink_calls s ≡ 0
   pub faults : sink_faults s ≡ 0

@@ -1,6 +1,7 @@
 -- What one service of a file that is read does, and what its reads come to.
 use Rattle.std.specs.Prelude.{ℕ, ◌≡◌, ◌≤◌, ◌⊎◌, Bool, true, false, ◌||◌, List, [], ◌∷◌, length, drop, Option, Some, None}
 use Rattle.std.specs.Io.KnownBytes.{Consumes, IsAtEnd}
+use Rattle.p9_word.specs.declared.limits.TheConstants.{MOST_READ_BYTES}
 use Rattle.p9_word.specs.declared.io_call.IoCall.{IoCall}
 use Rattle.p9_word.specs.declared.io_call.IoCall.TheVariants.{IoReadN}
 use Rattle.p9_word.specs.declared.io_call.Effect.{Effect}
@@ -34,9 +35,9 @@ pub record ReadServes {S : Type 0} (left : S → Option (List ℕ)) (faults : S 
   pub full : IsFull old.has_failed call effect (left new.source)
   pub tells : CountsFault (has_failed effect) (faults old.source) (faults new.source)
 
--- the same of one read, on an open file, of 1 to 65536 bytes
+-- the same of one read, on an open file, of one byte or more and not too many
 abbrev pub ReadsN : {S : Type 0} → (S → Option (List ℕ)) → (S → ℕ) → ReadDevice S → ℕ → Effect → ReadDevice S → Type 0
-ReadsN left faults old n effect new = old.is_open ≡ true → (n ≡ 0 → ⊥) → n ≤ 65536 → ReadServes left faults old (IoReadN n) effect new
+ReadsN left faults old n effect new = old.is_open ≡ true → (n ≡ 0 → ⊥) → n ≤ MOST_READ_BYTES → ReadServes left faults old (IoReadN n) effect new
 
 -- a read failed
 abbrev pub has_got_failed : Effect → Bool

@@ -4,15 +4,16 @@ ghost use Rattle.p9_outside.specs.Causes.{CountsFault};
 ghost use Rattle.p9_outside.specs.Reading.{ReadsN};
 
 use crate::{Device, Failed, Source};
+use p9_word::limits::{BLOCK_BYTES, MOST_READ_BYTES};
 use p9_word::{Effect, IoCall, Msg, Room};
 
 /// The most bytes that one read asks for: a block is read by one read.
-const PIECE: usize = 8192;
+const PIECE: usize = BLOCK_BYTES as usize;
 
 /// A file that is read.
 ///
 /// It begins shut. It refuses a write, a read while it is shut, and a read of no bytes or of more than
-/// 65,536. After a failed read the source is read no more, and every later read gives no bytes.
+/// [`MOST_READ_BYTES`]. After a failed read the source is read no more, and every later read gives no bytes.
 #[derive(Drop)]
 pub struct ReadDevice<S> {
     source: S,
@@ -124,7 +125,9 @@ impl<S: Source> Device for ReadDevice<S> {
                 self.is_open = false;
                 Effect::Shut
             }
-            IoCall::IoReadN(n) if self.is_open && *n != 0 && *n <= 65536 => self.read_n(*n, room),
+            IoCall::IoReadN(n) if self.is_open && *n != 0 && *n <= MOST_READ_BYTES => {
+                self.read_n(*n, room)
+            }
             _ => Effect::Refused,
         }
     }

@@ -2,6 +2,7 @@
 use Rattle.std.specs.Prelude.{ℕ, ◌≡◌, ◌≤◌, ◌+◌, ◌⊎◌, ◌||◌, min, Bool, true, false, List, [], length, take, Option, Some, None, MatchBool}
 use Rattle.std.proofs.Common.{refl, sym, ◌∙◌, ap, subst, inl, inr, arith}
 use Rattle.std.proofs.lemmas.List.{take_all, length-take}
+use Rattle.p9_word.specs.declared.limits.TheConstants.{MOST_TEXT_BYTES}
 use Rattle.p9_word.specs.declared.io_call.IoCall.{IoCall}
 use Rattle.p9_word.specs.declared.io_call.Effect.{Effect}
 use Rattle.p9_word.specs.declared.trail.Entry.{Entry}
@@ -42,7 +43,7 @@ copy_file told file bytes from to r accepted =
     record {
       text = r.text;
       has = r.has;
-      accepted = subst (λ (t : List ℕ). IsAccepted t from to) (read_whole 1048576 bytes r.text r.read accepted.short) accepted;
+      accepted = subst (λ (t : List ℕ). IsAccepted t from to) (read_whole MOST_TEXT_BYTES bytes r.text r.read accepted.short) accepted;
     }
 
 pub other_file : (told : Told) (file bytes : List ℕ) → IsReadFrom told file bytes → ((from to : List ℕ) → ¬ (IsAccepted bytes from to)) → IsOtherFile told file
@@ -51,7 +52,7 @@ other_file told file bytes r other =
       text = r.text;
       has = r.has;
       other = λ from to accepted.
-          other from to (subst (λ (t : List ℕ). IsAccepted t from to) (sym (text_read 1048576 bytes r.text r.read accepted.short)) accepted);
+          other from to (subst (λ (t : List ℕ). IsAccepted t from to) (sym (text_read MOST_TEXT_BYTES bytes r.text r.read accepted.short)) accepted);
     }
 
 front_from : (a b : Told) (path bs : List ℕ) → Stay a b → GivenFrom b path bs → GivenFrom a path bs

@@ -1,9 +1,10 @@
 -- What the text of a path is, where its source was read.
-use Rattle.std.specs.Prelude.{ℕ, ◌≡◌, ◌≤◌, ◌⊎◌, List, [], ◌++◌, length, take, Option, Some, None}
+use Rattle.std.specs.Prelude.{ℕ, ◌≡◌, ◌+◌, ◌≤◌, ◌⊎◌, List, [], ◌++◌, length, take, Option, Some, None}
 use Rattle.std.proofs.Common.{sym, ◌∙◌, ap, append-nil, inl, inr}
 use Rattle.std.proofs.lemmas.List.{take_all}
 use Rattle.std.proofs.Math.Seq.{take-append_seam}
 use Rattle.std.specs.Io.KnownBytes.{Consumes, IsAtEnd}
+use Rattle.p9_word.specs.declared.limits.TheConstants.{MOST_TEXT_BYTES}
 use Rattle.p9_outside.specs.Contents.{Told, Opens}
 use Rattle.p9_run.specs.FileText.{IsReadFrom}
 
@@ -22,10 +23,10 @@ front_of n text bytes rest is (inl len) short = first_of n text bytes rest is le
 front_of n text bytes rest is (inr none) short = all_of n text bytes rest is none short
 
 -- a path whose source was read to its end, or to one byte past the longest text
-pub was_read : (told : Told) (path : List ℕ) (left now : Option (List ℕ)) (bytes : List ℕ) → Opens told path left → Consumes left now bytes → (length bytes ≡ 1048577) ⊎ IsAtEnd now → length bytes ≤ 1048577 → IsReadFrom told path bytes
-was_read None path None now bytes opens takes ends short = record { text = bytes; has = tt; read = sym (take_all 1048577 bytes short) }
+pub was_read : (told : Told) (path : List ℕ) (left now : Option (List ℕ)) (bytes : List ℕ) → Opens told path left → Consumes left now bytes → (length bytes ≡ MOST_TEXT_BYTES + 1) ⊎ IsAtEnd now → length bytes ≤ MOST_TEXT_BYTES + 1 → IsReadFrom told path bytes
+was_read None path None now bytes opens takes ends short = record { text = bytes; has = tt; read = sym (take_all (MOST_TEXT_BYTES + 1) bytes short) }
 was_read None path (Some text) None bytes opens takes ends short = absurd takes
-was_read None path (Some text) (Some rest) bytes opens takes ends short = record { text = text; has = tt; read = front_of 1048577 text bytes rest takes ends short }
+was_read None path (Some text) (Some rest) bytes opens takes ends short = record { text = text; has = tt; read = front_of (MOST_TEXT_BYTES + 1) text bytes rest takes ends short }
 was_read (Some f) path None now bytes opens takes ends short = absurd opens
 was_read (Some f) path (Some text) None bytes opens takes ends short = absurd takes
-was_read (Some f) path (Some text) (Some rest) bytes opens takes ends short = record { text = text; has = opens; read = front_of 1048577 text bytes rest takes ends short }
+was_read (Some f) path (Some text) (Some rest) bytes opens takes ends short = record { text = text; has = opens; read = front_of (MOST_TEXT_BYTES + 1) text bytes rest takes ends short }

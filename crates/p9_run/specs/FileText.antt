@@ -1,12 +1,13 @@
 -- The text of FILE, and when it is one that is run.
-use Rattle.std.specs.Prelude.{ℕ, ◌≡◌, ◌≤◌, List, length, take, Some, None, ⊤}
+use Rattle.std.specs.Prelude.{ℕ, ◌≡◌, ◌+◌, ◌≤◌, List, length, take, Some, None, ⊤}
+use Rattle.p9_word.specs.declared.limits.TheConstants.{MOST_TEXT_BYTES}
 use Rattle.p9_outside.specs.Contents.{Told}
 use Rattle.p9_run.specs.CopyText.{IsCopyText}
 
--- a text that is run: it is that of a copy, and has at most 1048576 bytes
+-- a text that is run: it is that of a copy, and isn't too long
 pub record IsAccepted (text from to : List ℕ) : Type 0 where
   pub copy : IsCopyText text from to
-  pub short : length text ≤ 1048576
+  pub short : length text ≤ MOST_TEXT_BYTES
 
 -- no copy's text, or one that is too long
 abbrev pub IsRefused : List ℕ → Type 0
@@ -21,7 +22,7 @@ HasText (Some f) path text = f path ≡ Some text
 pub record IsReadFrom (told : Told) (path bytes : List ℕ) : Type 0 where
   pub text : List ℕ
   pub has : HasText told path text
-  pub read : bytes ≡ take 1048577 text
+  pub read : bytes ≡ take (MOST_TEXT_BYTES + 1) text
 
 -- FILE has the text of a copy from one path to another
 pub record IsCopyFile (told : Told) (file from to : List ℕ) : Type 0 where

@@ -1,6 +1,7 @@
 -- The stage `read`: what it asks, after the answers so far, of which the first is Done.
--- It opens its file, sends the file's bytes to its channel in pieces of 8192, the last shorter, and closes both.
+-- It opens its file, sends the file's bytes to its channel in blocks, the last shorter, and closes both.
 use Rattle.std.specs.Prelude.{true, false, List, [], ◌∷◌, Some}
+use Rattle.p9_word.specs.declared.limits.TheConstants.{BLOCK_BYTES}
 use Rattle.p9_word.specs.declared.answer.Answer.{Answer}
 use Rattle.p9_word.specs.declared.answer.Answer.TheVariants.{Done, Sent, Closed, Number, Io}
 use Rattle.p9_word.specs.declared.answer.IoAnswer.TheVariants.{Opened, Shut, Bytes, Fault}
@@ -32,7 +33,7 @@ closing e (a ∷ answers) = read_fails e answers
 
 -- another thread has closed the channel: the stage reads on and sends no more
 abbrev pub draining : Ends → List Answer → Request
-draining e [] = call_of e (IoReadN 8192)
+draining e [] = call_of e (IoReadN BLOCK_BYTES)
 draining e (Io (Bytes []) ∷ answers) = closing e answers
 draining e (Io (Bytes (b ∷ bs)) ∷ answers) = draining e answers
 draining e (Io Fault ∷ answers) = closing e answers
@@ -40,7 +41,7 @@ draining e (a ∷ answers) = read_fails e answers
 
 -- each piece is read and sent, until no bytes or a Fault comes
 abbrev pub reading : Ends → List Answer → Request
-reading e [] = call_of e (IoReadN 8192)
+reading e [] = call_of e (IoReadN BLOCK_BYTES)
 reading e (Io (Bytes []) ∷ answers) = closing e answers
 reading e (Io (Bytes (b ∷ bs)) ∷ []) = Chan (Send e.chan (Some (b ∷ bs)))
 reading e (Io (Bytes (b ∷ bs)) ∷ Sent ∷ answers) = reading e answers

@@ -2,6 +2,7 @@ ghost use Rattle.std.specs.Prelude.{◌≡◌, IfOk};
 ghost use Rattle.p9_word.specs.Setup.{IsValid};
 ghost use Rattle.p9_run.specs.CopySetup.{thread, copy_setup};
 
+use p9_word::limits::BLOCK_BYTES;
 use p9_word::{ChanSetup, Msg, NoMemory, Room, Seq, Setup, ThreadSetup};
 use std::alloc::Global;
 
@@ -33,7 +34,7 @@ fn chans(alloc: Global) -> Result<Seq<ChanSetup>, NoMemory>
     chans.reserve(1)?;
     chans.push(ChanSetup {
         cap: 0,
-        elsize: 8192,
+        elsize: BLOCK_BYTES,
     });
     Ok(chans.into_seq())
 }

@@ -1,4 +1,4 @@
-ghost use Rattle.std.specs.Prelude.{◌≡◌, ◌≤◌, ◌⊎◌, length, IfOk, MatchOption};
+ghost use Rattle.std.specs.Prelude.{◌≡◌, ◌+◌, ◌≤◌, ◌⊎◌, length, IfOk, MatchOption};
 ghost use Rattle.std.specs.Io.KnownBytes.{Consumes, IsAtEnd};
 ghost use Rattle.p9_outside.specs.Contents.{Stay};
 ghost use Rattle.p9_run.specs.CountedCalls.{CountsText};
@@ -7,14 +7,12 @@ ghost use Rattle.p9_run.specs.FileText.{IsAccepted, IsRefused, IsReadFrom};
 use crate::copy_text::{CopyPaths, read_text};
 use crate::report::FileFault;
 use p9_outside::{Failed, Files, FilesFault, Source};
+use p9_word::limits::{BLOCK_BYTES, MOST_TEXT_BYTES};
 use p9_word::{NoMemory, Room};
 use std::alloc::Global;
 
-/// The most bytes of a text.
-const LONGEST_TEXT: usize = 1_048_576;
-
 /// How many bytes of a text are read at a time.
-const PIECE: usize = 8192;
+const PIECE: usize = BLOCK_BYTES as usize;
 
 /// Why the text of FILE can't be had.
 #[derive(Clone, Copy, Debug, PartialEq, Eq)]
@@ -39,16 +37,16 @@ impl From<NoMemory> for TextFault {
 
 /// The bytes of a source, to its end or to one byte past the longest text.
 fn read_whole<S: Source>(alloc: Global, source: &mut S) -> Result<Room<u8>, TextFault>
-    ensures most { IfOk result (λ r. length r.items ≤ 1048577) }
+    ensures most { IfOk result (λ r. length r.items ≤ MOST_TEXT_BYTES + 1) }
     ensures bytes { IfOk result (λ r. Consumes (S.left source.old) (S.left source.new) r.items) }
-    ensures ends { IfOk result (λ r. (length r.items ≡ 1048577) ⊎ IsAtEnd (S.left source.new)) }
+    ensures ends { IfOk result (λ r. (length r.items ≡ MOST_TEXT_BYTES + 1) ⊎ IsAtEnd (S.left source.new)) }
     ensures opened { result ≡ Err TextFault.Open → ⊥ }
 {
     let mut text = Room::new(alloc);
     let mut buf = [0; PIECE];
     let mut len = 0;
-    while len <= LONGEST_TEXT {
-        let want = PIECE.min(LONGEST_TEXT + 1 - len);
+    while len <= MOST_TEXT_BYTES {
+        let want = PIECE.min(MOST_TEXT_BYTES + 1 - len);
         match source.read(&mut buf[..want]) {
             Ok(0) => return Ok(text),
             Ok(count) => {
@@ -85,7 +83,7 @@ pub(crate) fn read_file<F: Files>(
 pub(crate) fn accept(alloc: Global, text: &[u8]) -> Result<Option<CopyPaths>, NoMemory>
     ensures { IfOk result (λ paths. MatchOption paths (IsRefused text.now) (λ p. IsAccepted text.now p.from p.to)) }
 {
-    if text.len() > LONGEST_TEXT {
+    if text.len() > MOST_TEXT_BYTES {
         return Ok(None);
     }
     read_text(alloc, text)

@@ -3,11 +3,9 @@ ghost use Rattle.p9_run.specs.Stage.{call_of, exits};
 ghost use Rattle.p9_run.specs.ReadSteps.{IsNext, ends_of};
 
 use crate::stage::exits;
+use p9_word::limits::BLOCK_BYTES;
 use p9_word::{Answer, Body, ChanReq, IoAnswer, IoCall, IoReq, Msg, NoMemory, Request};
 use std::alloc::Global;
-
-/// The most bytes of a piece.
-const PIECE: u32 = 8192;
 
 /// What a reader has asked last.
 #[derive(Clone, Copy)]
@@ -111,7 +109,10 @@ impl Reader {
         ensures { IsNext (ends_of self.now) Step.Opening last result.0 result.1 }
     {
         match last {
-            Answer::Io(IoAnswer::Opened) => (self.call(IoCall::IoReadN(PIECE)), Step::Reading),
+            Answer::Io(IoAnswer::Opened) => (
+                self.call(IoCall::IoReadN(BLOCK_BYTES)),
+                Step::Reading,
+            ),
             _ => (self.close(), Step::Failing),
         }
     }
@@ -136,8 +137,8 @@ impl Reader {
         ensures { IsNext (ends_of self.now) Step.Sending last result.0 result.1 }
     {
         match last {
-            Answer::Sent => (self.call(IoCall::IoReadN(PIECE)), Step::Reading),
-            Answer::Closed => (self.call(IoCall::IoReadN(PIECE)), Step::Draining),
+            Answer::Sent => (self.call(IoCall::IoReadN(BLOCK_BYTES)), Step::Reading),
+            Answer::Closed => (self.call(IoCall::IoReadN(BLOCK_BYTES)), Step::Draining),
             _ => (self.close(), Step::Failing),
         }
     }
@@ -150,7 +151,7 @@ impl Reader {
                 if piece.as_slice().is_empty() {
                     (self.call(IoCall::IoClose), Step::Closing)
                 } else {
-                    (self.call(IoCall::IoReadN(PIECE)), Step::Draining)
+                    (self.call(IoCall::IoReadN(BLOCK_BYTES)), Step::Draining)
                 }
             }
             Answer::Io(IoAnswer::Fault) => (self.call(IoCall::IoClose), Step::Closing),

@@ -3,6 +3,7 @@ use Rattle.std.proofs.Common.{◌≡◌, ◌≢◌, ℕ, zero, suc, ◌+◌, ◌
 use Rattle.std.proofs.lemmas.List.{length-map, length_push}
 use Rattle.std.proofs.lemmas.Bool.{eq-eqb}
 use Rattle.std.specs.Prelude.{◌==◌, ◌&&◌, option_map, slice_get}
+use Rattle.p9_word.specs.declared.limits.TheConstants.{MOST_THREADS}
 use Rattle.p9_manual.specs.declared.state.Place.{Place}
 use Rattle.p9_manual.specs.declared.state.Place.TheVariants.{Running, New, Ready, Waiting, Ended}
 use Rattle.p9_manual.specs.declared.state.Thread.{Thread}
@@ -97,7 +98,7 @@ made_lanes threads ls t q x next new one k (inr ne) =
     rw (by_id-changed_other (joined t) ls x.proc_no q one ne) (if_imp (by_id ls q) (IsLane q threads true) (IsLane q (threads ++ x ∷ []) false) (k q) (λ l. beside_lane q threads l t x next far new))
 
 -- a new thread x with the id t
-pub made : (threads : List Thread) (ls : List Lined) (t : ℕ) (x : Thread) → t ≡ length threads + 1 → x.place ≡ New → HasId x.proc_no ls → length threads < 65536 → IsSound threads ls true → IsSound (threads ++ x ∷ []) (changed (joined t) ls (x.proc_no - 1)) false
+pub made : (threads : List Thread) (ls : List Lined) (t : ℕ) (x : Thread) → t ≡ length threads + 1 → x.place ≡ New → HasId x.proc_no ls → length threads < MOST_THREADS → IsSound threads ls true → IsSound (threads ++ x ∷ []) (changed (joined t) ls (x.proc_no - 1)) false
 made threads ls t x next new id few s =
     let long = length_push threads x in
     record {
@@ -236,9 +237,9 @@ line_off threads ls more t p s =
     if_imp (by_id ls p) (IsLane p threads more) (RunsOffLine t) (s.each p) (lane_off p threads more t)
 
 -- few threads live in a proc
-pub few_live : (threads : List Thread) (ls : List Lined) (more : Bool) (p : ℕ) → length threads < 65536 → IsSound threads ls more → IfSome (by_id ls p) (λ l. l.living < 65536)
+pub few_live : (threads : List Thread) (ls : List Lined) (more : Bool) (p : ℕ) → length threads < MOST_THREADS → IsSound threads ls more → IfSome (by_id ls p) (λ l. l.living < MOST_THREADS)
 few_live threads ls more p few s =
-    if_imp (by_id ls p) (IsLane p threads more) (λ l. l.living < 65536) (s.each p) (λ l k. let n = times-le_length (lives_in p) threads in let m = k.living in omega arith)
+    if_imp (by_id ls p) (IsLane p threads more) (λ l. l.living < MOST_THREADS) (s.each p) (λ l k. let n = times-le_length (lives_in p) threads in let m = k.living in omega arith)
 
 -- no thread was made
 nil_by : {A : Type 0} (t : ℕ) → (t ≡ 0) ⊎ (t ≢ 0) → by_id {A = A} [] t ≡ None

@@ -1,5 +1,6 @@
 -- What the fields of a schedule keep.
 use Rattle.std.specs.Prelude.{◌≡◌, ℕ, ◌==◌, ◌+◌, ◌≤◌, Bool, false, List, Option, None, Some, IfSome, length, map}
+use Rattle.p9_word.specs.declared.limits.TheConstants.{MOST_THREADS}
 use Rattle.p9_manual.specs.declared.state.Thread.{Thread}
 use Rattle.p9_manual.specs.Places.{lives_in, runs_there}
 use Rattle.p9_manual.specs.Standing.{times}
@@ -41,9 +42,9 @@ pub record IsLane (p : ℕ) (threads : List Thread) (more : Bool) (l : Lined) : 
   pub line : (t : ℕ) → times (λ u. u == t) l.line ≡ one_if (ready_there p (by_id threads t))
   pub room : l.living + one_if more ≤ l.room
 
--- at most 65,536 threads stand in the proc places, and each place has its lane
+-- not too many threads stand in the proc places, and each place has its lane
 pub record IsSound (threads : List Thread) (lanes : List Lined) (more : Bool) : Type 0 where
-  pub few : length threads ≤ 65536
+  pub few : length threads ≤ MOST_THREADS
   pub procs : (t : ℕ) → IfSome (by_id threads t) (λ x. HasId x.proc_no lanes)
   pub each : (p : ℕ) → IfSome (by_id lanes p) (IsLane p threads more)
 

@@ -2,6 +2,7 @@ ghost use Rattle.std.specs.Prelude.{◌≡◌, ◌+◌, ◌<◌, ◌≤◌, leng
 ghost use Rattle.p9_sched.specs.Lined.{bare, no_lane, joined, queued, stopped, left, cleared, started, RunsOffLine};
 
 use crate::line::drop_from_line;
+use p9_word::limits::MOST_THREADS;
 use p9_word::{NoMemory, Tid};
 use std::alloc::Global;
 use std::collections::VecDeque;
@@ -102,7 +103,7 @@ impl Lane {
     /// A new thread stands last in the line.
     pub fn join(&mut self, t: Tid)
         requires room { length self.old.line < self.old.room }
-        requires few { self.old.living < 65536 }
+        requires few { self.old.living < MOST_THREADS }
         ensures { self.new ≡ joined t self.old }
     {
         self.living += 1;

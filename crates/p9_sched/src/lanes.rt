@@ -6,6 +6,7 @@ ghost use Rattle.p9_sched.specs.Stored.{HasId};
 
 use crate::each::{any_living, any_ready, any_running, clear_each, reserve_each};
 use crate::lane::Lane;
+use p9_word::limits::MOST_THREADS;
 use p9_word::{NoMemory, Tid};
 use std::alloc::Global;
 use std::marker::Model;
@@ -129,7 +130,7 @@ impl Lanes {
     pub fn join(&mut self, p: u32, t: Tid)
         requires place { HasId p self.old }
         requires room { IfSome (by_id self.old p) (λ l. length l.line < l.room) }
-        requires few { IfSome (by_id self.old p) (λ l. l.living < 65536) }
+        requires few { IfSome (by_id self.old p) (λ l. l.living < MOST_THREADS) }
         ensures { self.new ≡ changed (joined t) self.old (p - 1) }
     {
         let lane = &mut self.all[p as usize - 1];

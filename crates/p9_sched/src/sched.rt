@@ -16,12 +16,10 @@ ghost use Rattle.p9_sched.specs.Turns.{place_of, next_in, is_ready_in, answer_ne
 use crate::lanes::Lanes;
 use crate::table::Table;
 use crate::turns::{Place, Ready};
+use p9_word::limits::MOST_THREADS;
 use p9_word::{Answer, Msg, NoMemory, Tid};
 use std::alloc::Global;
 use std::marker::Model;
-
-/// The most threads that are made.
-const LIMIT: usize = 65536;
 
 /// The threads of a run and the procs that they stand in.
 ///
@@ -74,15 +72,15 @@ impl Sched {
     }
 
     /// Makes a thread of a proc in a group: it is new and stands last in the line of its proc. The answer is
-    /// its id; ids count from 1, and none is used again. `None` where 65,536 threads were made. It needs the
-    /// room of a reserve. thread(2).
+    /// its id; ids count from 1, and none is used again. `None` where [`MOST_THREADS`] were made. It needs
+    /// the room of a reserve. thread(2).
     pub fn make_thread(&mut self, p: u32, program: u32, arg: u64, group: u32) -> Option<Tid>
         requires place { IsPlace p self.old }
         requires room { self.old.rooms.thread ≡ true }
         ensures made { MatchOption result (RefusesThread self.old self.new) (λ t. AddsThread t p program arg group self.old self.new) }
         ensures stands { IfSome result (λ _. TracksStanding (with_thread p program arg group) self.old self.new) }
     {
-        if LIMIT <= self.table.len() {
+        if MOST_THREADS <= self.table.len() {
             return None;
         }
         let t = self.table.add(p, program, arg, group);
@@ -90,7 +88,7 @@ impl Sched {
         Some(t)
     }
 
-    /// Opens the next proc place with a new thread in it. `None` where no place is left or 65,536 threads were
+    /// Opens the next proc place with a new thread in it. `None` where no place is left or [`MOST_THREADS`] were
     /// made. It needs the room of a reserve. thread(2).
     pub fn make_proc(&mut self, program: u32, arg: u64, group: u32) -> Option<Tid>
         requires room { self.old.rooms.thread ≡ true }
@@ -273,7 +271,7 @@ impl Sched {
     /// How many threads were made: those with the ids from 1 to this number.
     pub fn made(&self) -> u32
         ensures made { result ≡ length self.now.threads }
-        ensures bound { result ≤ 65536 }
+        ensures bound { result ≤ MOST_THREADS }
     {
         self.table.len() as u32
     }

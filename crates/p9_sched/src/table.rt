@@ -10,6 +10,7 @@ use crate::row::Row;
 use crate::rows::end_each;
 use indexmap::IndexMap;
 use p9_manual::Place;
+use p9_word::limits::MOST_THREADS;
 use p9_word::{Msg, NoMemory, Tid};
 use std::alloc::Global;
 use std::marker::Model;
@@ -87,7 +88,7 @@ impl Table {
     /// Makes a thread of a proc, and gives its id.
     pub fn add(&mut self, p: u32, program: u32, arg: u64, group: u32) -> Tid
         requires room { self.old.rooms.thread ≡ true }
-        requires few { length self.old.threads < 65536 }
+        requires few { length self.old.threads < MOST_THREADS }
         ensures id { result ≡ length self.old.threads + 1 }
         ensures table { self.new ≡ with_fresh p program arg group self.old }
     {

@@ -1,6 +1,7 @@
 -- What the thread that asks and its proc are in a state that the schedule stands for.
 use Rattle.std.proofs.Common.{◌≡◌, ℕ, ◌+◌, ◌<◌, ◌≤◌, true, false, zero, suc, List, length, Option, Some, None, refl, sym, ap, subst, ◌∙◌, arith, rules, tests}
 use Rattle.std.specs.Prelude.{nat_lt}
+use Rattle.p9_word.specs.declared.limits.TheConstants.{MOST_THREADS}
 use Rattle.p9_word.specs.declared.answer.Answer.{Answer}
 use Rattle.p9_word.specs.declared.answer.Answer.TheVariants.{Number}
 use Rattle.p9_word.specs.declared.request.ThreadReq.{ThreadReq}
@@ -61,7 +62,7 @@ word_told places p word sched s caller o there at e h =
 pub serves_proc : (setup : Setup) (t program arg n : ℕ) (caller : Thread) (group : ℕ) (old mid new : Schedule) (s : State) → is_no_program setup program ≡ false → AddsProc n program arg group old mid → group ≡ caller.group → TracksStanding (with_proc_in program arg group) old mid → Tracks (readied t (Number n)) mid new → SchedFor setup.places old s → IsSound setup s → Serves setup.places s (create_proc setup t program arg s caller) Waits new
 serves_proc setup t program arg n caller group old mid new s off adds mine made ready h sound =
     let id : length s.threads + 1 ≡ n = ap (λ (xs : List Thread). length xs + 1) h.threads ∙ sym adds.id in
-    let few : nat_lt (length s.threads) 65536 ≡ true = below (length s.threads) 65536 (rw h.threads adds.few) in
+    let few : nat_lt (length s.threads) MOST_THREADS ≡ true = below (length s.threads) MOST_THREADS (rw h.threads adds.few) in
     let left : nat_lt s.opened setup.places ≡ true = below s.opened setup.places (rw (h.opened, ← h.count) adds.left) in
     let its : SchedFor setup.places new (readied t (Number n) (with_proc_in program arg group s)) = ready setup.places (with_proc_in program arg group s) (made setup.places s sound.stand h) in
     let at : SchedFor setup.places new (readied t (Number (length s.threads + 1)) (with_proc_in program arg group s)) = subst (λ (k : ℕ). SchedFor setup.places new (readied t (Number k) (with_proc_in program arg group s))) (sym id) its in

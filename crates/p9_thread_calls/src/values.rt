@@ -13,6 +13,7 @@ ghost use Rattle.p9_thread_calls.specs.Serves.{ServesRequest};
 
 use crate::spares::Spare;
 use p9_sched::{Place, Sched};
+use p9_word::limits::MOST_NAME_BYTES;
 use p9_word::{Answer, Msg, Reply, Tid};
 
 /// Lets the other ready threads run first.
@@ -68,12 +69,12 @@ pub(crate) fn join_group(sched: &mut Sched, t: Tid, group: u32) -> Reply
     Reply::Now(Answer::Number(u64::from(old)))
 }
 
-/// Whether a name has other than 1 to 64 bytes.
+/// Whether a name has no bytes or too many.
 fn is_no_name(name: &Msg) -> bool
     ensures { result ≡ is_no_name name.now }
 {
     let len = name.as_slice().len();
-    len == 0 || len > 64
+    len == 0 || len > MOST_NAME_BYTES
 }
 
 /// Gives the caller a name.

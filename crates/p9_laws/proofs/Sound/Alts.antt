@@ -13,6 +13,7 @@ use Rattle.p9_word.specs.declared.answer.Answer.TheVariants.{Closed, NoBlock}
 use Rattle.p9_word.specs.declared.request.Request.TheVariants.{Chan as ChanRequest}
 use Rattle.p9_word.specs.declared.request.ChanReq.{ChanReq}
 use Rattle.p9_word.specs.declared.setup.Setup.{Setup}
+use Rattle.p9_word.specs.declared.limits.TheConstants.{MOST_ENTRIES}
 use Rattle.p9_manual.specs.declared.state.Channel.{Channel}
 use Rattle.p9_manual.specs.declared.state.Waiter.{Waiter}
 use Rattle.p9_manual.specs.declared.state.Party.{Party}
@@ -114,6 +115,6 @@ pub alt_fine : (setup : Setup) (t : ℕ) (r : ChanReq) (a : Alternation) (s : St
 alt_fine setup t r a s e sound runs =
     if_fine setup s.position (fits s.chans a.entries) _ _
     (λ f. decided_fine setup t r a (with_draw a.entries s) (verdict_of setup t a s) e
-    (and_parts (nat_le (length a.entries) 64) (list_all (fits_entry s.chans) a.entries) f).1
+    (and_parts (nat_le (length a.entries) MOST_ENTRIES) (list_all (fits_entry s.chans) a.entries) f).1
     (verdict_right setup t a s sound) (drawn_sound setup a.entries s sound) runs)
     (λ _. bad_fine setup s sound)

@@ -7,13 +7,14 @@ ghost use Rattle.p9_outside.specs.Plans.{is_planned};
 
 use crate::memory::plans::{Plan, planned_numbers, spend};
 use crate::{Files, FilesFault, MemSink, MemSource, PathFail};
+use p9_word::limits::BLOCK_BYTES;
 use p9_word::{Msg, NoMemory};
 use std::alloc::Global;
 
 /// The most bytes that one read or write of a file in memory moves.
-const MOST: usize = 8192;
+const MOST: usize = BLOCK_BYTES as usize;
 
-/// The room of a sink, if no other was set.
+/// The room of a sink in bytes, if no other was set. This project's own.
 const ROOM: usize = 1_048_576;
 
 /// The contents of a path.

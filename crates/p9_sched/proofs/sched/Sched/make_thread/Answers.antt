@@ -1,4 +1,5 @@
 use Rattle.std.proofs.Common.{◌≡◌, ◌∙◌, ◌+◌, ◌<◌, length, true, refl, ap, subst, arith}
+use Rattle.p9_word.specs.declared.limits.TheConstants.{MOST_THREADS}
 use Rattle.p9_manual.specs.Create.{fresh}
 use Rattle.p9_sched.specs.Kept.{IsSound}
 use Rattle.p9_sched.specs.Schedule.{Schedule}
@@ -26,9 +27,9 @@ invariant_of-self c =
 
 pub returns-clause-made : goal.returns-clause-made
 returns-clause-made c =
-    let few : length c.self.inside.table.threads < 65536 = omega arith in
+    let few : length c.self.inside.table.threads < MOST_THREADS = omega arith in
     let view = made_view c.self.inside c.args.self.now c.args.p c.args.program c.args.arg c.args.group c.add-t.result c.self.view_is c.add-t.ensures.id in
-    record { few = subst (λ (v : Schedule). length v.threads < 65536) c.self.view_is few; id = subst (λ (v : Schedule). c.add-t.result ≡ length v.threads + 1) c.self.view_is c.add-t.ensures.id; made = rw (c.add-t.ensures.table, c.join.ensures) view }
+    record { few = subst (λ (v : Schedule). length v.threads < MOST_THREADS) c.self.view_is few; id = subst (λ (v : Schedule). c.add-t.result ≡ length v.threads + 1) c.self.view_is c.add-t.ensures.id; made = rw (c.add-t.ensures.table, c.join.ensures) view }
 
 pub returns-clause-stands : goal.returns-clause-stands
 returns-clause-stands c = tracks_made c.args.p c.args.program c.args.arg c.args.group c.args.self.now _ (returns-clause-made c).made c.requires.place
