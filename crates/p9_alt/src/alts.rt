@@ -22,6 +22,7 @@ use crate::side::Side;
 use crate::zeros::Zeros;
 use p9_chan::Chans;
 use p9_manual::Party;
+use p9_word::limits::MOST_ENTRIES;
 use p9_word::{AltEntry, Ending, NoMemory, Room, Seq, Tid};
 use std::alloc::Global;
 use std::marker::Model;
@@ -137,8 +138,8 @@ impl Alts {
         self.lists.take(entry)
     }
 
-    /// Whether these entries may be asked for: there are at most 64, each slot goes with its op, and each entry in use
-    /// names a channel that is live and gives no more bytes than an element has.
+    /// Whether these entries may be asked for: there are at most [`MOST_ENTRIES`], each slot goes with its op, and each
+    /// entry in use names a channel that is live and gives no more bytes than an element has.
     pub fn fits(&self, entries: &Seq<AltEntry>) -> bool
         ensures { result ≡ fits self.now.channels.chans entries.now }
     {
@@ -233,7 +234,7 @@ impl Alts {
     /// No entry is ready: the thread waits, unless its list doesn't block.
     fn unready(&mut self, me: Party, ending: Ending) -> Offer
         requires waiter { self.old.spare.waiter ≡ true }
-        requires few { length me.entries ≤ 64 }
+        requires few { length me.entries ≤ MOST_ENTRIES }
         requires idle { IsIdle me.tid self.old }
         ensures told { result ≡ offer_of (unready ending) }
         ensures channels { self.new.channels ≡ self.old.channels }

@@ -21,6 +21,7 @@ use crate::side::Side;
 use crate::zeros::Zeros;
 use p9_chan::{Chans, Element};
 use p9_manual::Party;
+use p9_word::limits::MOST_ENTRIES;
 use p9_word::{AltEntry, AltOp, Answer, Msg, Slot};
 
 /// The caller's part in what goes on: the position of its call, the form of its answers, and the number of its entry. Nobody
@@ -54,7 +55,7 @@ fn failed(turn: Turn) -> Done
 /// Wakes a thread that waited to receive on channel c, with a value.
 #[inline(always)]
 fn wake_receiver(w: Party, lists: &mut Lists, c: u32, from: u64, value: Msg) -> Wake
-    requires { length w.entries ≤ 64 }
+    requires { length w.entries ≤ MOST_ENTRIES }
     ensures { result ≡ receiver_wake c from value w }
 {
     let wake = Wake {

@@ -8,6 +8,7 @@ ghost use Rattle.p9_alt.specs.Sides.{party_test};
 use crate::side::Side;
 use p9_manual::Party;
 use p9_word::Tid;
+use p9_word::limits::MOST_ENTRIES;
 
 /// Whether a thread that waits does this on channel c.
 pub(crate) fn is_awaited(waits: &[Party], side: Side, c: u32) -> bool
@@ -62,7 +63,7 @@ pub(crate) fn first_out(waits: &mut Vec<Party>, side: Side, c: u32, from: usize)
     requires before { AreUnmet (party_test side c) from waits.old.items }
     requires queue { IsQueue waits.old.items }
     ensures first { result ≡ find (party_test side c) waits.old.items }
-    ensures few { IfSome result (λ w. length w.entries ≤ 64) }
+    ensures few { IfSome result (λ w. length w.entries ≤ MOST_ENTRIES) }
     ensures waits { waits.new.items ≡ without result waits.old.items }
     ensures less { IsLess waits.old waits.new }
 {

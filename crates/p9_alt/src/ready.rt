@@ -13,6 +13,7 @@ use crate::queue::{first_place, is_awaited_by_other};
 use crate::side::Side;
 use p9_chan::Chans;
 use p9_manual::Party;
+use p9_word::limits::MOST_ENTRIES;
 use p9_word::{AltEntry, AltOp, Tid};
 
 /// Whether a send of a thread on channel c can go on.
@@ -90,7 +91,7 @@ pub(crate) fn ready_from(
     tid: Tid,
     entries: &[AltEntry],
 ) -> (u32, usize)
-    requires few { length entries.now ≤ 64 }
+    requires few { length entries.now ≤ MOST_ENTRIES }
     requires usable { All (IsUsable chans.now) entries.now }
     requires idle { times (λ w. w.tid == tid) waits.now ≡ 0 }
     ensures count { result.0 ≡ length (ready_entries chans.now.chans waits.now entries.now) }
@@ -122,7 +123,7 @@ fn is_ready(chans: &Chans, waits: &[Party], tid: Tid, e: &AltEntry) -> bool
 
 /// How many entries of a thread are ready. It is never its own partner.
 pub(crate) fn ready_count(chans: &Chans, waits: &[Party], tid: Tid, entries: &[AltEntry]) -> u32
-    requires few { length entries.now ≤ 64 }
+    requires few { length entries.now ≤ MOST_ENTRIES }
     requires usable { All (IsUsable chans.now) entries.now }
     ensures { result ≡ length (ready_entries chans.now.chans (others tid waits.now) entries.now) }
 {
@@ -137,7 +138,7 @@ pub(crate) fn ready_count(chans: &Chans, waits: &[Party], tid: Tid, entries: &[A
 
 /// The same for a thread that doesn't wait.
 fn idle_count(chans: &Chans, waits: &[Party], tid: Tid, entries: &[AltEntry]) -> u32
-    requires few { length entries.now ≤ 64 }
+    requires few { length entries.now ≤ MOST_ENTRIES }
     requires usable { All (IsUsable chans.now) entries.now }
     requires idle { times (λ w. w.tid == tid) waits.now ≡ 0 }
     ensures { result ≡ length (ready_entries chans.now.chans waits.now entries.now) }
