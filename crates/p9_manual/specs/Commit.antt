@@ -14,8 +14,7 @@ use Rattle.p9_manual.specs.ReadyEntries.{is_unbuffered}
 use Rattle.p9_manual.specs.State.{Move, by_id, changed}
 use Rattle.p9_manual.specs.Told.{sent_bytes, kept_bytes, sent_answer, got_answer, failed_answer, receiver_answer, sender_answer, sender_bytes}
 
--- what an alt came to: the caller's answer; who else is woken, with which answer; the value that left a channel, if one
--- did; and the channels after it
+-- what an alt came to: the answers of the caller and of who is woken, the value that left a channel, and the channels after it
 pub record Deal : Type 0 where
   pub answer : Answer
   pub woken : Option (ℕ × Answer)

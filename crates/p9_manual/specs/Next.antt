@@ -7,6 +7,7 @@ use Rattle.p9_word.specs.declared.setup.Setup.{Setup}
 use Rattle.p9_manual.specs.declared.state.Place.{Place}
 use Rattle.p9_manual.specs.declared.state.Place.TheVariants.{Running, New, Ready, Waiting, Ended}
 use Rattle.p9_manual.specs.declared.state.Thread.{Thread}
+use Rattle.p9_manual.specs.Held.{is_held}
 use Rattle.p9_manual.specs.Places.{lives, lives_in, runs_in, is_of}
 use Rattle.p9_manual.specs.State.{State, Outcome, by_id, pick, placed, replied, same}
 use Rattle.p9_manual.specs.Stuck.{is_stuck}
@@ -45,10 +46,14 @@ abbrev pub next_of : State → Option (ℕ × List ℕ) → Outcome
 next_of s None = if is_stuck s then stuck s else same Idle s
 next_of s (Some found) = turn found.0 (record s { line = found.1 }) (option_map started (by_id s.threads found.0))
 
+-- the first ready thread of proc p in the line, and the line without it. A proc that is held has none
+abbrev pub first_ready : ℕ → State → Option (ℕ × List ℕ)
+first_ready p s = if is_held p s then None else pick (λ t. is_of p (by_id s.threads t)) s.line
+
 -- proc p asks for its next thread
 unfoldable pub next_event : Setup → ℕ → State → Outcome
 next_event setup p s =
     if not (is_place setup p) then same Stray s
     else if is_over p s then same Over s
     else if list_any (runs_in p) s.threads then same Stray s
-    else next_of s (pick (λ t. is_of p (by_id s.threads t)) s.line)
+    else next_of s (first_ready p s)

@@ -5,7 +5,7 @@ use Rattle.std.specs.Option.{is_some}
 use Rattle.p9_word.specs.Setup.{IsBetween}
 use Rattle.p9_word.specs.declared.setup.Setup.{Setup}
 use Rattle.p9_word.specs.declared.request.Request.{Request}
-use Rattle.p9_word.specs.declared.request.Request.TheVariants.{Chan as ChanRequest, Io as IoRequest}
+use Rattle.p9_word.specs.declared.request.Request.TheVariants.{Thread as ThreadRequest, Chan as ChanRequest, Lock as LockRequest, Io as IoRequest}
 use Rattle.p9_word.specs.declared.request.IoReq.TheVariants.{IoRun}
 use Rattle.p9_word.specs.declared.io_call.IoCall.{IoCall}
 use Rattle.p9_manual.specs.declared.state.Thread.{Thread}
@@ -14,10 +14,12 @@ use Rattle.p9_manual.specs.declared.state.Channel.{Channel}
 use Rattle.p9_manual.specs.declared.state.Ioproc.{Ioproc}
 use Rattle.p9_manual.specs.declared.state.Ioproc.TheVariants.{Posted, Begun}
 use Rattle.p9_manual.specs.Effects.{message_length}
+use Rattle.p9_manual.specs.LockWaits.{lock_waiters, wait_for}
 use Rattle.p9_manual.specs.Standing.{StandOnce, IsRising, times}
 use Rattle.p9_manual.specs.Offers.{alternation, parties}
 use Rattle.p9_manual.specs.AltEntries.{sends_on, receives_on, waits_on}
 use Rattle.p9_manual.specs.ReadyEntries.{has_room, has_element}
+use Rattle.p9_manual.specs.SoundLocks.{WaitInTurn}
 use Rattle.p9_manual.specs.State.{State, by_id}
 
 -- a thread is in one of the open procs and has one of the programs
@@ -25,11 +27,13 @@ pub record IsThreadIn (opened programs : ℕ) (t : Thread) : Type 0 where
   pub proc_no : IsBetween 1 opened t.proc_no
   pub program : IsBetween 1 programs t.program
 
--- the requests in which threads wait: alts, and calls through ioprocs
+-- the requests in which threads wait: alts, those for locks and to meet, and calls through ioprocs
 abbrev pub can_wait : Request → Bool
 can_wait (ChanRequest r) = is_some (alternation r)
+can_wait (LockRequest r) = is_some (wait_for r)
 can_wait (IoRequest (IoRun k call)) = true
-can_wait r = false
+can_wait (IoRequest r) = false
+can_wait (ThreadRequest r) = false
 
 -- no send waits on this channel: it is closed or has room, or isn't there
 abbrev pub takes_sends : Option Channel → Bool
@@ -56,10 +60,11 @@ pub record WaitRightly (chans : List Channel) (waits : List Waiter) : Type 0 whe
 abbrev pub IsWithin : Channel → Type 0
 IsWithin chan = length chan.elements ≤ chan.cap
 
--- the positions of the calls in which threads wait: each was made before now, and they came in this order
+-- the positions of the calls in which threads wait: each was made before now, and those in alts came in this order. A woken
+-- sleeper stands last with the position of its rsleep
 pub record InOrder (position : ℕ) (waits : List Waiter) : Type 0 where
   pub before : All (λ w. w.at + 1 ≤ position) waits
-  pub rising : IsRising (map (λ w. w.at) waits)
+  pub rising : IsRising (map (λ w. w.at) (parties waits))
 
 -- the call at ioproc k that thread t makes by a request, with t
 abbrev pub call_in : ℕ → ℕ → Request → List (ℕ × IoCall)
@@ -105,7 +110,9 @@ pub record IsSound (setup : Setup) (s : State) : Type 0 where
   pub waits_right : WaitRightly s.chans s.waits
   -- no channel has more elements than it may have
   pub within : All IsWithin s.chans
-  -- the waits stand in the order of their calls
+  -- threads wait in turn for locks and to meet, and one alone holds a held proc
+  pub in_turn : WaitInTurn s.threads s.holds (lock_waiters s.waits)
+  -- the alts among the waits stand in the order of their calls
   pub order : InOrder s.position s.waits
   -- ioprocs and the threads that wait for them agree
   pub calls : CallsMatch s.ioprocs s.waits

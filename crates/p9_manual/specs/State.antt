@@ -14,6 +14,7 @@ use Rattle.p9_manual.specs.declared.state.Waiter.{Waiter}
 use Rattle.p9_manual.specs.declared.state.Channel.{Channel}
 use Rattle.p9_manual.specs.declared.state.Ioproc.{Ioproc}
 use Rattle.p9_manual.specs.Holds.{Holds}
+use Rattle.p9_manual.specs.LockWaits.{is_holding, lined, lock_waiters}
 
 -- a proc place: its word, the handlers of notes (id and prefix) and the pending notes. notify(2)
 pub record Proc : Type 0 where
@@ -111,7 +112,8 @@ abbrev pub waiting : ℕ → Request → State → Outcome
 waiting t r s =
     replied Waits (record s { threads = placed t Waiting s.threads; waits = s.waits ++ record { tid = t; request = r; at = s.position } ∷ [] })
 
--- a thread that waits goes on: it leaves the waits, and is ready with an answer, last in the line. Alts, closed channels and
--- ioprocs all wake by this; so the threads that an event makes ready stand in the line as woken, then new, then the caller
+-- a thread that waits goes on: it leaves the waits, and is ready with an answer. Alts, closed channels, ioprocs, locks and
+-- rendezvous all wake by this; so the threads that an event makes ready stand in the line as woken, then new, then the caller
 abbrev pub wake : ℕ → Answer → State → State
-wake t a s = record (readied t a s) { waits = waits_without t s.waits }
+wake t a s =
+    record s { threads = placed t (Ready a) s.threads; line = lined (is_holding t (lock_waiters s.waits)) t s.line; waits = waits_without t s.waits }

@@ -49,6 +49,8 @@ pub enum Answer {
     Minus,
     /// A text, as the name of a thread.
     Text(Msg),
+    /// Another thread came with the same tag, and this value.
+    Met(u64),
     /// What came of a call through an ioproc.
     Io(IoAnswer),
     /// The request names what isn't there, or asks for what can't be; nothing has changed.
@@ -100,6 +102,7 @@ impl Datum for Answer {
             Answer::Number(n) => Ok(Answer::Number(*n)),
             Answer::Minus => Ok(Answer::Minus),
             Answer::Text(text) => Ok(Answer::Text(text.copied(alloc)?)),
+            Answer::Met(value) => Ok(Answer::Met(*value)),
             Answer::Io(answer) => Ok(Answer::Io(answer.copied(alloc)?)),
             Answer::Bad => Ok(Answer::Bad),
         }
@@ -135,6 +138,7 @@ impl Datum for Answer {
             (Answer::Number(a), Answer::Number(b)) => a == b,
             (Answer::Minus, Answer::Minus) => true,
             (Answer::Text(a), Answer::Text(b)) => a.is_same(b),
+            (Answer::Met(a), Answer::Met(b)) => a == b,
             (Answer::Io(a), Answer::Io(b)) => a.is_same(b),
             (Answer::Bad, Answer::Bad) => true,
             _ => false,

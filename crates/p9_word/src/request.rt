@@ -124,9 +124,46 @@ pub enum ChanReq {
     },
 }
 
-/// A request on locks, each sort of them by its numbers from 1: `Bad` where it names one that isn't there. lock(2).
-#[derive(Drop)]
+/// A request on locks, Rendezes, Refs and tags, each sort of lock by its numbers from 1: `Bad` where it names one that isn't
+/// there. lock(2), rendezvous(2).
+#[derive(Clone, Copy, PartialEq, Eq)]
 pub enum LockReq {
+    /// Meets the thread that has waited longest with the same tag: each is told the other's value, `Met`. Where none waits, the
+    /// caller waits for one, and its whole proc is held until then.
+    Rendezvous { tag: u64, value: u64 },
+    /// Takes a Lock, and waits while another thread holds it: `Done`. While the caller waits its whole proc is held.
+    Lock { k: u32 },
+    /// Takes a Lock where `Lock` would get it at once: `Number(1)`, else `Number(0)`.
+    CanLock { k: u32 },
+    /// Gives a Lock up to the thread that has waited longest for it: `Done`, or `Bad` where the caller doesn't hold it.
+    Unlock { k: u32 },
+    /// Takes a QLock, and waits while another thread holds it: `Done`. Lets others run.
+    QLock { k: u32 },
+    /// Takes a QLock where `QLock` would get it at once: `Number(1)`, else `Number(0)`.
+    CanQLock { k: u32 },
+    /// Gives a QLock up to the thread that has waited longest for it: `Done`, or `Bad` where the caller doesn't hold it.
+    QUnlock { k: u32 },
+    /// Takes an RWLock as one of its readers, and waits while a writer holds it or anyone waits for it: `Done`. Lets others run.
+    RLock { k: u32 },
+    /// Takes an RWLock as `RLock` does where it would get it at once: `Number(1)`, else `Number(0)`.
+    CanRLock { k: u32 },
+    /// Gives one hold of an RWLock as a reader up: `Done`, or `Bad` where the caller has none. After the last one the writer at
+    /// the head of the queue gets it, or else all readers there up to the first writer.
+    RUnlock { k: u32 },
+    /// Takes an RWLock as its writer, and waits while anyone holds it: `Done`. Lets others run.
+    WLock { k: u32 },
+    /// Takes an RWLock as `WLock` does where it would get it at once: `Number(1)`, else `Number(0)`.
+    CanWLock { k: u32 },
+    /// Gives an RWLock up as its writer: `Done`, or `Bad` where the caller isn't it. The lock goes on as after `RUnlock`.
+    WUnlock { k: u32 },
+    /// Gives the QLock of a Rendez up and sleeps there until it is woken and has got the QLock again: `Done`, or `Bad` where the
+    /// caller doesn't hold that QLock. Lets others run.
+    RSleep { k: u32 },
+    /// Wakes the thread that has slept longest at a Rendez: from then on it waits for the QLock. `Number` of the threads woken,
+    /// 0 or 1, or `Bad` where the caller doesn't hold that QLock.
+    RWakeup { k: u32 },
+    /// Wakes all threads that sleep at a Rendez, in order, as `RWakeup` does: `Number` of them.
+    RWakeupAll { k: u32 },
     /// Raises a Ref by 1: `Number` of its new value, or `Bad` where it has the greatest value that a u64 has.
     IncRef { k: u32 },
     /// Lowers a Ref by 1: `Number` of its new value, or `Bad` where its value is 0.
@@ -350,18 +387,11 @@ impl Datum for ChanReq {
 
 impl Datum for LockReq {
     fn copied(&self, _alloc: Global) -> Result<LockReq, NoMemory> {
-        match self {
-            LockReq::IncRef { k } => Ok(LockReq::IncRef { k: *k }),
-            LockReq::DecRef { k } => Ok(LockReq::DecRef { k: *k }),
-        }
+        Ok(*self)
     }
 
     fn is_same(&self, other: &LockReq) -> bool {
-        match (self, other) {
-            (LockReq::IncRef { k: a }, LockReq::IncRef { k: b }) => a == b,
-            (LockReq::DecRef { k: a }, LockReq::DecRef { k: b }) => a == b,
-            _ => false,
-        }
+        self == other
     }
 }
 
