@@ -17,11 +17,11 @@ use Rattle.p9_manual.specs.declared.state.Place.{Place}
 use Rattle.p9_manual.specs.declared.state.Thread.{Thread}
 use Rattle.p9_manual.specs.declared.state.Ioproc.{Ioproc}
 use Rattle.p9_manual.specs.declared.state.Ioproc.TheVariants.{Unmade, Idle, Posted, Begun, Closed}
-use Rattle.p9_manual.specs.State.{State, Outcome, by_id, pick, same}
-use Rattle.p9_manual.specs.Places.{lives, lives_in, runs, runs_in, runs_there, stands_ready, has_call, is_of, is_ended, is_running}
-use Rattle.p9_manual.specs.Stuck.{is_stuck}
+use Rattle.p9_manual.specs.State.{State, Outcome, by_id, same}
+use Rattle.p9_manual.specs.Places.{lives, lives_in, runs, runs_in, runs_there, has_call, is_ended, is_running}
+use Rattle.p9_manual.specs.Stuck.{can_run, is_stuck}
 use Rattle.p9_manual.specs.Ioprocs.{take_call, did_call, io_event}
-use Rattle.p9_manual.specs.Next.{next_event, next_of, turn, is_place, is_over}
+use Rattle.p9_manual.specs.Next.{next_event, first_ready, next_of, turn, is_place, is_over}
 use Rattle.p9_manual.specs.Step.{step, outcome, called, served, makes_entry, counted}
 use Rattle.p9_manual.specs.History.{IsLegal, IsLegalFrom, after_entry, begin_state, state_after}
 use Rattle.p9_laws.specs.RunReplies.{reply_at}
@@ -42,10 +42,10 @@ stuck_parts true false false false h = (refl, refl)
 stuck_parts a b c d h = cc
 
 none_running : (s : State) → is_stuck s ≡ true → list_any runs s.threads ≡ false
-none_running s stuck = (stuck_parts (list_any lives s.threads) (list_any runs s.threads) (list_any stands_ready s.threads) (list_any has_call s.ioprocs) stuck).0
+none_running s stuck = (stuck_parts (list_any lives s.threads) (list_any runs s.threads) (list_any (can_run s) s.threads) (list_any has_call s.ioprocs) stuck).0
 
 none_called : (s : State) → is_stuck s ≡ true → list_any has_call s.ioprocs ≡ false
-none_called s stuck = (stuck_parts (list_any lives s.threads) (list_any runs s.threads) (list_any stands_ready s.threads) (list_any has_call s.ioprocs) stuck).1
+none_called s stuck = (stuck_parts (list_any lives s.threads) (list_any runs s.threads) (list_any (can_run s) s.threads) (list_any has_call s.ioprocs) stuck).1
 
 and_not : (a b : Bool) → (b ≡ true → ⊥) → (a && b) ≡ false
 and_not true true h = absurd (h refl)
@@ -144,7 +144,7 @@ next_over setup p s going =
     if_over (not (is_place setup p)) _ _ (λ e. goes_on s (same Stray s) going refl)
     (λ e. if_over (is_over p s) _ _ (λ e. goes_on s (same Over s) going refl)
     (λ e. if_over (list_any (runs_in p) s.threads) _ _ (λ e. goes_on s (same Stray s) going refl)
-    (λ e. next_of_over s (pick (λ t. is_of p (by_id s.threads t)) s.line) going)))
+    (λ e. next_of_over s (first_ready p s) going)))
 
 outcome_over : (setup : Setup) (seat : Seat) (event : Event) (s : State) → IsUpright s → s.over ≡ false → IsEndRight (outcome setup seat event s)
 unfolding outcome called

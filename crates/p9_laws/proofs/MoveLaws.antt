@@ -2,7 +2,7 @@
 use Rattle.std.proofs.Common.{◌≡◌, ◌≢◌, ℕ, Bool, true, false, not, cond, ◌&&◌, ◌||◌, eqb, leb, List, [], ◌∷◌, Option, Some, None, refl, sym, subst, ◌∙◌, arith, rules, tests}
 use Rattle.std.specs.Prelude.{option_map}
 use Rattle.std.specs.List.{list_any}
-use Rattle.std.proofs.lemmas.Bool.{le-leb, eqb-true}
+use Rattle.std.proofs.lemmas.Bool.{and_parts, le-leb, eqb-true}
 use Rattle.p9_word.specs.declared.io_call.IoCall.{IoCall}
 use Rattle.p9_word.specs.declared.io_call.IoCall.TheVariants.{IoOpen, IoReadN, IoWrite, IoClose}
 use Rattle.p9_word.specs.declared.io_call.Effect.TheVariants.{Refused}
@@ -22,12 +22,15 @@ use Rattle.p9_manual.specs.declared.state.Ioproc.{Ioproc}
 use Rattle.p9_manual.specs.declared.state.Ioproc.TheVariants.{Unmade, Idle, Posted, Begun, Closed}
 use Rattle.p9_manual.specs.State.{State, by_id, pick, behind}
 use Rattle.p9_manual.specs.Places.{is_of, runs, runs_in, runs_there, lives, lives_in, stands_ready, has_call, is_ready}
+use Rattle.p9_manual.specs.Held.{is_held}
+use Rattle.p9_manual.specs.Stuck.{can_run}
 use Rattle.p9_manual.specs.Threads.{thread_call, asked}
 use Rattle.p9_manual.specs.Effects.{fits}
 use Rattle.p9_manual.specs.Ioprocs.{io_event}
 use Rattle.p9_manual.specs.Next.{next_event, next_of, turn, turn_reply, started, is_place, is_over}
 use Rattle.p9_manual.specs.Step.{step, outcome, called, served, makes_entry}
 use Rattle.p9_laws.specs.StuckReplies.{CanMove, is_ready_thread, IsLined, UnstuckMoves}
+use Rattle.p9_laws.proofs.FirstReady.{in_proc}
 use Rattle.p9_laws.proofs.StuckLaws.{any_at, found, clash, in_line_ready, no_runs_in}
 
 -- some event makes an entry
@@ -85,16 +88,22 @@ ready_lives p x Running is h of = cc
 ready_lives p x Waiting is h of = cc
 ready_lives p x Ended is h of = cc
 
-turn_step : (setup : Setup) (p : ℕ) (s : State) → is_place setup p ≡ true → is_over p s ≡ false → list_any (runs_in p) s.threads ≡ false → Moves (next_of s (pick (λ t. is_of p (by_id s.threads t)) s.line)).reply → Moves (step setup (Proc p) Next s).reply
+turn_step : (setup : Setup) (p : ℕ) (s : State) → is_place setup p ≡ true → is_over p s ≡ false → list_any (runs_in p) s.threads ≡ false → is_held p s ≡ false → Moves (next_of s (pick (in_proc p s) s.line)).reply → Moves (step setup (Proc p) Next s).reply
 unfolding step outcome next_event
-turn_step setup p s place over none h = rw (place, over, none) h
+turn_step setup p s place over none free h = rw (place, over, none, free) h
+
+-- a proc that isn't held
+free_of : (b : Bool) → not b ≡ true → b ≡ false
+free_of true h = cc
+free_of false h = refl
 
 not_over : (p : ℕ) (s : State) → s.over ≡ false → leb p s.opened ≡ true → list_any (lives_in p) s.threads ≡ true → is_over p s ≡ false
 not_over p s over opened some = rw (over, opened, some) refl
 
-one_has_turn : (setup : Setup) (s : State) → IsLined setup s → s.over ≡ false → list_any runs s.threads ≡ false → list_any stands_ready s.threads ≡ true → CanMove setup s
+one_has_turn : (setup : Setup) (s : State) → IsLined setup s → s.over ≡ false → list_any runs s.threads ≡ false → list_any (can_run s) s.threads ≡ true → CanMove setup s
 one_has_turn setup s lined over none some =
-    let f = found stands_ready s.threads some in
+    let f = found (can_run s) s.threads some in
+    let can = and_parts (stands_ready f.1) (not (is_held f.1.proc_no s)) (f.3) in
     let p : ℕ = f.1.proc_no in
     let of : eqb f.1.proc_no f.1.proc_no ≡ true = search (rules, tests) in
     let proc = lined.procs f.0 f.1 f.2 in
@@ -102,12 +111,12 @@ one_has_turn setup s lined over none some =
     let high : leb f.1.proc_no setup.places ≡ true = le-leb f.1.proc_no setup.places (let o = lined.opened in let h = proc.1 in omega (arith, o, h)) in
     let place : is_place setup f.1.proc_no ≡ true = rw (low, high) refl in
     let opened : leb f.1.proc_no s.opened ≡ true = le-leb f.1.proc_no s.opened proc.1 in
-    let live : list_any (lives_in f.1.proc_no) s.threads ≡ true = any_at (lives_in f.1.proc_no) s.threads f.0 f.1 f.2 (ready_lives f.1.proc_no f.1 f.1.place refl f.3 of) in
-    let ready : is_ready_thread (by_id s.threads f.0) ≡ true = rw (f.2) (f.3) in
+    let live : list_any (lives_in f.1.proc_no) s.threads ≡ true = any_at (lives_in f.1.proc_no) s.threads f.0 f.1 f.2 (ready_lives f.1.proc_no f.1 f.1.place refl can.0 of) in
+    let ready : is_ready_thread (by_id s.threads f.0) ≡ true = rw (f.2) (can.0) in
     let in_line : list_any (λ u. eqb u f.0) s.line ≡ true = sym (lined.ready f.0) ∙ ready in
     let passes : is_of f.1.proc_no (by_id s.threads f.0) ≡ true = rw (f.2) of in
-    let m = turn_step setup f.1.proc_no s place (not_over f.1.proc_no s over opened live) (no_runs_in f.1.proc_no s.threads none)
-    (next_of_moves setup s (λ t. is_of f.1.proc_no (by_id s.threads t)) f.0 (pick (λ t. is_of f.1.proc_no (by_id s.threads t)) s.line) refl lined in_line passes) in
+    let m = turn_step setup f.1.proc_no s place (not_over f.1.proc_no s over opened live) (no_runs_in f.1.proc_no s.threads none) (free_of (is_held f.1.proc_no s) can.1)
+    (next_of_moves setup s (in_proc f.1.proc_no s) f.0 (pick (in_proc f.1.proc_no s) s.line) refl lined in_line passes) in
     record { seat = Proc f.1.proc_no; event = Next; makes = m.0; moves = m.1 }
 
 always_refused : (call : IoCall) → fits call Refused ≡ true
@@ -134,7 +143,7 @@ call_moves setup s k Closed at h over live = cc
 one_has_call : (setup : Setup) (s : State) → list_any has_call s.ioprocs ≡ true → s.over ≡ false → list_any lives s.threads ≡ true → CanMove setup s
 one_has_call setup s some over live = let f = found has_call s.ioprocs some in call_moves setup s f.0 f.1 f.2 f.3 over live
 
-moves_by : (setup : Setup) (s : State) (b c d : Bool) → list_any runs s.threads ≡ b → list_any stands_ready s.threads ≡ c → list_any has_call s.ioprocs ≡ d → IsLined setup s → s.over ≡ false → list_any lives s.threads ≡ true → (true && not b && not c && not d) ≡ false → CanMove setup s
+moves_by : (setup : Setup) (s : State) (b c d : Bool) → list_any runs s.threads ≡ b → list_any (can_run s) s.threads ≡ c → list_any has_call s.ioprocs ≡ d → IsLined setup s → s.over ≡ false → list_any lives s.threads ≡ true → (true && not b && not c && not d) ≡ false → CanMove setup s
 moves_by setup s true c d runs ready calls lined over live h = one_ends setup s runs
 moves_by setup s false true d runs ready calls lined over live h = one_has_turn setup s lined over runs ready
 moves_by setup s false false true runs ready calls lined over live h = one_has_call setup s calls over live

@@ -13,6 +13,7 @@ use Rattle.p9_word.specs.declared.request.Request.TheVariants.{Chan as ChanReque
 use Rattle.p9_word.specs.declared.request.ChanReq.{ChanReq}
 use Rattle.p9_word.specs.declared.request.IoReq.{IoReq}
 use Rattle.p9_word.specs.declared.request.IoReq.TheVariants.{IoProc, IoRun, CloseIoProc}
+use Rattle.p9_word.specs.declared.request.LockReq.{LockReq}
 use Rattle.p9_word.specs.declared.io_call.IoCall.{IoCall}
 use Rattle.p9_word.specs.declared.io_call.Effect.{Effect}
 use Rattle.p9_word.specs.declared.setup.Setup.{Setup}
@@ -21,8 +22,9 @@ use Rattle.p9_manual.specs.declared.state.Place.TheVariants.{Running, New, Ready
 use Rattle.p9_manual.specs.declared.state.Thread.{Thread}
 use Rattle.p9_manual.specs.declared.state.Ioproc.{Ioproc}
 use Rattle.p9_manual.specs.declared.state.Ioproc.TheVariants as stand
-use Rattle.p9_manual.specs.State.{State, Outcome, by_id, pick}
-use Rattle.p9_manual.specs.Places.{runs_there, runs_in, lives, is_of}
+use Rattle.p9_manual.specs.State.{State, Outcome, by_id}
+use Rattle.p9_manual.specs.Locks.{lock_call}
+use Rattle.p9_manual.specs.Places.{runs_there, runs_in, lives}
 use Rattle.p9_manual.specs.Offers.{Alternation, alternation}
 use Rattle.p9_manual.specs.ReadyEntries.{fits as fits_chans}
 use Rattle.p9_manual.specs.Alt.{Verdict, AllClosed, Commits, NoneReady, MustWait, decided}
@@ -30,12 +32,13 @@ use Rattle.p9_manual.specs.Chans.{chan_call, by_alternation}
 use Rattle.p9_manual.specs.Ioprocs.{io_call, make, post_call, close_ioproc, take_call, did_call, io_event}
 use Rattle.p9_manual.specs.Effects.{fits, message_length}
 use Rattle.p9_manual.specs.Stuck.{is_stuck}
-use Rattle.p9_manual.specs.Next.{next_event, next_of, turn, turn_reply, started, is_place, is_over}
+use Rattle.p9_manual.specs.Next.{next_event, next_of, first_ready, turn, turn_reply, started, is_place, is_over}
 use Rattle.p9_manual.specs.Step.{step, outcome, called, counted, makes_entry}
 use Rattle.p9_laws.specs.Refusals.{is_refusal}
 use Rattle.p9_laws.proofs.AskedChans.{DoesToChans, Tells, MakesChannel, FreesChannel, ClosesChannel, on_channel_does}
+use Rattle.p9_laws.proofs.AskedLocks.{DoesToLocks, Says, Counts, Gets, GetsInTurn, WaitsFor, GivesUp, Sleeps, Meets, MovesFirst, MovesAll, lock_call_does}
 use Rattle.p9_laws.proofs.Asked.{Does, Answers, ChangesCaller, ChangesAside, MakesThread, MakesProc, GivesWay, Ends, EndsAll}
-use Rattle.p9_laws.proofs.Groups.{Kind, Plain, OfChans, OfIoprocs, served_kind}
+use Rattle.p9_laws.proofs.Groups.{Kind, Plain, OfChans, OfLocks, OfIoprocs, served_kind}
 
 -- a refusal leaves this state
 abbrev Leaves : State → Outcome → Type 0
@@ -69,12 +72,27 @@ chan_leaves S t r s = alternation_leaves S t r s (alternation r)
 asked_leaves : (S : Setup) (t : ℕ) (s : State) (o : Outcome) → Does S t s o → Leaves s o
 asked_leaves S t s _ (Answers x) = λ e. refl
 asked_leaves S t s _ (ChangesCaller f caller x at leaves grants) = λ e. cc (e, grants)
-asked_leaves S t s _ (ChangesAside procs holds x grants) = λ e. cc (e, grants)
+asked_leaves S t s _ (ChangesAside procs x grants) = λ e. cc (e, grants)
 asked_leaves S t s _ (MakesThread program arg caller at own) = λ e. cc
 asked_leaves S t s _ (MakesProc program arg caller at own room) = λ e. cc
 asked_leaves S t s _ GivesWay = λ e. cc
 asked_leaves S t s _ Ends = λ e. cc
 asked_leaves S t s _ EndsAll = λ e. cc
+
+locks_leave : (S : Setup) (t : ℕ) (s : State) (o : Outcome) → DoesToLocks S t s o → Leaves s o
+locks_leave S t s _ (Says x) = λ e. refl
+locks_leave S t s _ (Counts k value) = λ e. cc
+locks_leave S t s _ (Gets l k x grants can) = λ e. cc (e, grants)
+locks_leave S t s _ (GetsInTurn l k can) = λ e. cc
+locks_leave S t s _ (WaitsFor r waits) = λ e. cc
+locks_leave S t s _ (GivesUp l k has) = λ e. cc
+locks_leave S t s _ (Sleeps r may) = λ e. cc
+locks_leave S t s _ (Meets tag value w found) = λ e. cc
+locks_leave S t s _ (MovesFirst r n may) = λ e. cc
+locks_leave S t s _ (MovesAll r n may) = λ e. cc
+
+lock_leaves : (S : Setup) (t : ℕ) (r : LockReq) (s : State) → Leaves s (lock_call S t r s)
+lock_leaves S t r s = locks_leave S t s _ (lock_call_does S t r s)
 
 make_leaves : (k : ℕ) (s : State) (o : Option Ioproc) → Leaves s (make k s o)
 make_leaves k s None = λ e. refl
@@ -109,6 +127,7 @@ io_leaves S t (CloseIoProc k) s = close_ioproc_leaves k s _
 kind_leaves : (S : Setup) (t : ℕ) (s : State) (r : Request) (o : Outcome) → Kind S t s r o → Leaves s o
 kind_leaves S t s _ _ (Plain r o no_alt does) = asked_leaves S t s o does
 kind_leaves S t s _ _ (OfChans r) = chan_leaves S t r s
+kind_leaves S t s _ _ (OfLocks r) = lock_leaves S t r s
 kind_leaves S t s _ _ (OfIoprocs r) = io_leaves S t r s
 
 called_leaves : (S : Setup) (p t : ℕ) (r : Request) (s : State) → Leaves s (called S p t r s)
@@ -134,7 +153,7 @@ next_of_leaves s (Some found) = turn_leaves found.0 found.1 s (by_id s.threads f
 next_leaves : (S : Setup) (p : ℕ) (s : State) → Leaves s (next_event S p s)
 unfolding next_event
 next_leaves S p s =
-    if_leaves s (not (is_place S p)) _ _ (λ e. refl) (if_leaves s (is_over p s) _ _ (λ e. refl) (if_leaves s (list_any (runs_in p) s.threads) _ _ (λ e. refl) (next_of_leaves s (pick (λ t. is_of p (by_id s.threads t)) s.line))))
+    if_leaves s (not (is_place S p)) _ _ (λ e. refl) (if_leaves s (is_over p s) _ _ (λ e. refl) (if_leaves s (list_any (runs_in p) s.threads) _ _ (λ e. refl) (next_of_leaves s (first_ready p s))))
 
 take_leaves : (k : ℕ) (s : State) (o : Option Ioproc) → Leaves s (take_call k s o)
 take_leaves k s None = λ e. refl

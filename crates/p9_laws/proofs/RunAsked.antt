@@ -13,7 +13,6 @@ use Rattle.p9_word.specs.declared.trail.Reply.TheVariants.{Now, Ended as EndedRe
 use Rattle.p9_manual.specs.declared.state.Place.{Place}
 use Rattle.p9_manual.specs.declared.state.Place.TheVariants.{Running, New, Ready, Waiting, Ended}
 use Rattle.p9_manual.specs.declared.state.Thread.{Thread}
-use Rattle.p9_manual.specs.Holds.{Holds}
 use Rattle.p9_manual.specs.State.{State, Outcome, Proc, by_id, changed, now, done}
 use Rattle.p9_manual.specs.Places.{lives, runs_there}
 use Rattle.p9_manual.specs.Programs.{ends_all}
@@ -25,11 +24,12 @@ use Rattle.p9_laws.specs.RunReplies.{IsCallReply}
 use Rattle.p9_laws.specs.IoReplies.{IsBegun}
 use Rattle.p9_laws.proofs.Tallies.{tally, tally-changed, tally-map}
 use Rattle.p9_laws.proofs.Asked.{Does, Answers, ChangesCaller, ChangesAside, MakesThread, MakesProc, GivesWay, Ends, EndsAll, LeavesStanding, thread_call_ends_all}
-use Rattle.p9_laws.proofs.Groups.{Kind, Plain, OfChans, OfIoprocs, served_kind}
+use Rattle.p9_laws.proofs.Groups.{Kind, Plain, OfChans, OfLocks, OfIoprocs, served_kind}
 use Rattle.p9_laws.proofs.Standing.{IsUp, place_of, place_in, times_waiting, times_in_line, get_by_id, by_id-changed_same, by_id-changed_other}
 use Rattle.p9_laws.proofs.RunMoves.{IsUpright, IsFading, is_unborn, RunsIn}
 use Rattle.p9_laws.proofs.RunCalls.{IsServed, done_served, now_served, io_call_served}
 use Rattle.p9_laws.proofs.RunChans.{chan_call_served}
+use Rattle.p9_laws.proofs.RunLocks.{lock_call_served}
 use Rattle.p9_laws.proofs.RunCreate.{making}
 use Rattle.p9_laws.proofs.RunEnds.{exits_served, all_places, all_unborn, none_lives, all_upright, all_begun}
 
@@ -185,8 +185,8 @@ opened_called setup t program arg s x at runs upright own room =
       within = λ h. omega (arith, room);
     }
 
-aside_called : (setup : Setup) (t : ℕ) (procs : List Proc) (holds : Holds) (a : Answer) (s : State) → IsUpright s → IsCalled setup t s (now a (record s { procs = procs; holds = holds }))
-aside_called setup t procs holds a s upright =
+aside_called : (setup : Setup) (t : ℕ) (procs : List Proc) (a : Answer) (s : State) → IsUpright s → IsCalled setup t s (now a (record s { procs = procs }))
+aside_called setup t procs a s upright =
     record {
       up = λ u h. h;
       unborn = λ u h. h;
@@ -208,7 +208,7 @@ place_there s t x at runs = sym (ap place_in at) ∙ runs
 asked_called : (setup : Setup) (t : ℕ) (s : State) (o : Outcome) → Does setup t s o → IsUpright s → RunsIn s t → IsCalled setup t s o
 asked_called setup t s _ (Answers a) upright runs = from_served setup t s _ (now_served s t a s.ioprocs upright (λ k call h. h))
 asked_called setup t s _ (ChangesCaller f x a at leaves grants) upright runs = kept_called setup t s x f a at leaves upright
-asked_called setup t s _ (ChangesAside procs holds a grants) upright runs = aside_called setup t procs holds a s upright
+asked_called setup t s _ (ChangesAside procs a grants) upright runs = aside_called setup t procs a s upright
 asked_called setup t s _ (MakesThread program arg x at own) upright runs = made_called setup t program arg s x at (place_there s t x at runs) upright own
 asked_called setup t s _ (MakesProc program arg x at own room) upright runs = opened_called setup t program arg s x at (place_there s t x at runs) upright own room
 asked_called setup t s _ GivesWay upright runs = from_served setup t s _ (done_served s t Done upright runs)
@@ -218,6 +218,7 @@ asked_called setup t s _ EndsAll upright runs = all_called setup t s upright
 kind_called : (setup : Setup) (t : ℕ) (s : State) (r : Request) (o : Outcome) → Kind setup t s r o → IsUpright s → RunsIn s t → IsCalled setup t s o
 kind_called setup t s _ _ (Plain r o no_alt does) upright runs = asked_called setup t s o does upright runs
 kind_called setup t s _ _ (OfChans r) upright runs = from_served setup t s _ (chan_call_served setup t r s upright runs)
+kind_called setup t s _ _ (OfLocks r) upright runs = from_served setup t s _ (lock_call_served setup t r s upright runs)
 kind_called setup t s _ _ (OfIoprocs r) upright runs = from_served setup t s _ (io_call_served setup t r s upright runs)
 
 pub served_called : (setup : Setup) (t : ℕ) (r : Request) (s : State) → IsUpright s → RunsIn s t → IsCalled setup t s (served setup t r s)

@@ -30,7 +30,7 @@ use Rattle.p9_laws.proofs.Tallies.{tally, tally-filtered_fewer}
 use Rattle.p9_laws.proofs.AskedChans.{DoesToChans, Tells, MakesChannel, FreesChannel, ClosesChannel, on_channel_does}
 use Rattle.p9_laws.proofs.RunMoves.{IsUpright, RunsIn, unmoved, moved_on, same_id}
 use Rattle.p9_laws.proofs.RunCalls.{IsServed, done_served, just_waiting, bad_served, if_served}
-use Rattle.p9_laws.proofs.RunWoken.{is_party, is_chan_wait_of, parties_wait, AllWait, IsWaking, waking}
+use Rattle.p9_laws.proofs.RunWoken.{is_party, is_other_wait_of, parties_wait, AllWait, IsWaking, waking}
 
 -- whom a deal wakes is one of these threads
 abbrev pub IsAmong : List Party → Option (ℕ × Answer) → Type 0
@@ -116,7 +116,7 @@ verdict_among draw me ending chans waits =
 one_waits : (w : ℕ × Answer) (s : State) → 1 ≤ tally (is_party w.0) (parties s.waits) → AllWait (w ∷ []) s
 one_waits w s some u = one_step (eqb w.0 u) u w.0 s refl some
   where
-    one_step : (b : Bool) (u t : ℕ) (s : State) → eqb t u ≡ b → 1 ≤ tally (is_party t) (parties s.waits) → cond b 1 0 + 0 ≤ tally (is_chan_wait_of u) s.waits
+    one_step : (b : Bool) (u t : ℕ) (s : State) → eqb t u ≡ b → 1 ≤ tally (is_party t) (parties s.waits) → cond b 1 0 + 0 ≤ tally (is_other_wait_of u) s.waits
     one_step true u t s e some =
         let same = eqb-true t u e in
         let k = parties_wait u s.waits in
@@ -197,8 +197,8 @@ all_wait c s u =
     omega (arith, same, fewer, k)
 
 -- an answer at once after threads are woken
-closing_served : (t : ℕ) (a : Answer) (s m : State) → IsWaking t s m → IsServed t s (now a m)
-closing_served t a s m is =
+pub answer_served : (t : ℕ) (a : Answer) (s m : State) → IsWaking t s m → IsServed t s (now a m)
+answer_served t a s m is =
     record {
       moved = is.moved;
       upright = is.upright;
@@ -217,10 +217,10 @@ chans_waking t s m chans is =
 
 close_channel_served : (t c : ℕ) (s : State) → IsUpright s → RunsIn s t → IsServed t s (close_channel c s)
 close_channel_served t c s upright runs =
-    closing_served t _ s _ (chans_waking t s _ _ (waking (all_failed c (parties s.waits)) t (record s { chans = changed closed_chan s.chans (c - 1) }) upright runs (all_wait c s)))
+    answer_served t _ s _ (chans_waking t s _ _ (waking (all_failed c (parties s.waits)) t (record s { chans = changed closed_chan s.chans (c - 1) }) upright runs (all_wait c s)))
 
 now_only : (t : ℕ) (a : Answer) (s : State) (chans : List Channel) → IsUpright s → IsServed t s (now a (record s { chans = chans }))
-now_only t a s chans upright = closing_served t a s _ (chans_waking t s _ chans (record { moved = unmoved s.threads; upright = upright; stays = refl; ioprocs = refl; over = refl; opened = refl }))
+now_only t a s chans upright = answer_served t a s _ (chans_waking t s _ chans (record { moved = unmoved s.threads; upright = upright; stays = refl; ioprocs = refl; over = refl; opened = refl }))
 
 chans_served : (t : ℕ) (s : State) (o : Outcome) → DoesToChans s o → IsUpright s → RunsIn s t → IsServed t s o
 chans_served t s _ (Tells a) upright runs = now_only t a s s.chans upright

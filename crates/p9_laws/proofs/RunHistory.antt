@@ -21,10 +21,10 @@ use Rattle.p9_manual.specs.declared.state.Place.TheVariants.{Running, New, Ready
 use Rattle.p9_manual.specs.declared.state.Thread.{Thread}
 use Rattle.p9_manual.specs.declared.state.Ioproc.{Ioproc}
 use Rattle.p9_manual.specs.declared.state.Ioproc.TheVariants.{Unmade}
-use Rattle.p9_manual.specs.State.{State, Outcome, by_id, pick, placed, at_place, same}
-use Rattle.p9_manual.specs.Places.{is_of, runs_in, runs_there}
+use Rattle.p9_manual.specs.State.{State, Outcome, by_id, placed, at_place, same}
+use Rattle.p9_manual.specs.Places.{runs_in, runs_there}
 use Rattle.p9_manual.specs.Stuck.{is_stuck}
-use Rattle.p9_manual.specs.Next.{next_event, next_of, turn, turn_reply, started, is_place, is_over}
+use Rattle.p9_manual.specs.Next.{next_event, first_ready, next_of, turn, turn_reply, started, is_place, is_over}
 use Rattle.p9_manual.specs.Step.{step, outcome, called, served, makes_entry, counted}
 use Rattle.p9_manual.specs.History.{IsLegal, IsLegalFrom, after_entry, begin_state, state_after, new_thread, with_entry, ids_from}
 use Rattle.p9_manual.specs.Programs.{Life, Unborn, Lives, Dead, life, life_after, given_answer, ends_all, after_call, after_event, Asks, IsAsked, RunsFrom, RunsPrograms}
@@ -142,7 +142,7 @@ next_agrees setup p s lives before makes =
     if_agrees (not (is_place setup p)) lives _ _ (λ m. before)
     (λ m. if_agrees (is_over p s) lives _ _ (λ m. before)
     (λ m. if_agrees (list_any (runs_in p) s.threads) lives _ _ (λ m. before)
-    (λ m. next_of_agrees s (pick (λ t. is_of p (by_id s.threads t)) s.line) lives before m) m) m) makes
+    (λ m. next_of_agrees s (first_ready p s) lives before m) m) m) makes
 
 outcome_agrees : (setup : Setup) (seat : Seat) (event : Event) (s : State) (lives : ℕ → Life) → IsUpright s → Agrees lives s.threads → makes_entry (outcome setup seat event s).reply ≡ true → EventAgrees event lives (outcome setup seat event s)
 unfolding outcome called

@@ -16,10 +16,10 @@ use Rattle.p9_word.specs.declared.trail.Seat.TheVariants.{Proc}
 use Rattle.p9_manual.specs.declared.state.Place.{Place}
 use Rattle.p9_manual.specs.declared.state.Place.TheVariants.{Running, New, Ready, Waiting, Ended}
 use Rattle.p9_manual.specs.declared.state.Thread.{Thread}
-use Rattle.p9_manual.specs.State.{State, Outcome, by_id, pick, placed, at_place, same}
+use Rattle.p9_manual.specs.State.{State, Outcome, by_id, placed, at_place, same}
 use Rattle.p9_manual.specs.Places.{is_of, runs_in, runs_there, lives, lives_in, is_ended}
 use Rattle.p9_manual.specs.Stuck.{is_stuck}
-use Rattle.p9_manual.specs.Next.{next_event, next_of, turn, turn_reply, started, is_place, is_over}
+use Rattle.p9_manual.specs.Next.{next_event, first_ready, next_of, turn, turn_reply, started, is_place, is_over}
 use Rattle.p9_manual.specs.Step.{step, outcome, called, makes_entry, counted}
 use Rattle.p9_manual.specs.History.{IsLegal, state_after}
 use Rattle.p9_manual.specs.Programs.{Life, life}
@@ -27,6 +27,7 @@ use Rattle.p9_laws.specs.RunReplies.{reply_at, grown, IsCallReply, IsNextReply, 
 use Rattle.p9_laws.proofs.Tallies.{tally, tally-at, tally-le, tally_none, none_tally, pick_passes}
 use Rattle.p9_laws.proofs.Standing.{IsUp, place_of, place_runs, get_by_id, by_id-changed_same}
 use Rattle.p9_laws.proofs.RunMoves.{IsUpright, IsFading}
+use Rattle.p9_laws.proofs.FirstReady.{in_proc, first_parts}
 use Rattle.p9_laws.proofs.RunAsked.{IsNewIn, IsShut, served_called}
 use Rattle.p9_laws.proofs.RunSteps.{IsStepped, step_stepped}
 use Rattle.p9_laws.proofs.RunMembers.{program_at, is_foreign}
@@ -64,7 +65,7 @@ step_lively setup p s lives before none =
     if_lively lives setup.programs (not (is_place setup p)) _ _ tt
     (if_lively lives setup.programs (is_over p s) _ _ tt
     (if_lively lives setup.programs (list_any (runs_in p) s.threads) _ _ tt
-    (next_of_lively lives setup.programs s (pick (λ t. is_of p (by_id s.threads t)) s.line) before none)))
+    (next_of_lively lives setup.programs s (first_ready p s) before none)))
 
 pub turn_replies : (setup : Setup) (H : List Entry) → TurnReplies setup H
 turn_replies setup H p valid legal =
@@ -93,10 +94,10 @@ if_runs : (p : ℕ) (b : Bool) (o q : Outcome) → RunsNow p o → RunsNow p q �
 if_runs p true o q f g = f
 if_runs p false o q f g = g
 
-next_of_runs : (p : ℕ) (s : State) (o : Option (ℕ × List ℕ)) → pick (λ t. is_of p (by_id s.threads t)) s.line ≡ o → RunsNow p (next_of s o)
+next_of_runs : (p : ℕ) (s : State) (o : Option (ℕ × List ℕ)) → first_ready p s ≡ o → RunsNow p (next_of s o)
 next_of_runs p s None e = if_runs p (is_stuck s) _ _ tt tt
 next_of_runs p s (Some found) e =
-    turned_runs p found.0 (record s { line = found.1 }) (by_id s.threads found.0) refl (pick_passes (λ t. is_of p (by_id s.threads t)) s.line found.0 found.1 e)
+    turned_runs p found.0 (record s { line = found.1 }) (by_id s.threads found.0) refl (pick_passes (in_proc p s) s.line found.0 found.1 (first_parts p s found e).1)
 
 given_on : (P Q : ℕ → Type 0) (r : Reply) → (makes_entry r ≡ true → (t : ℕ) → P t → Q t) → IsGiven P r → IsGiven Q r
 given_on P Q (Begin t program arg) f h = f refl t h
@@ -114,7 +115,7 @@ step_runs setup p s =
     counted_runs p s (outcome setup (Proc p) Next s)
     (if_runs p (not (is_place setup p)) _ _ tt
     (if_runs p (is_over p s) _ _ tt
-    (if_runs p (list_any (runs_in p) s.threads) _ _ tt (next_of_runs p s (pick (λ t. is_of p (by_id s.threads t)) s.line) refl))))
+    (if_runs p (list_any (runs_in p) s.threads) _ _ tt (next_of_runs p s (first_ready p s) refl))))
 
 pub turns_run : (setup : Setup) (H : List Entry) → TurnsRun setup H
 turns_run setup H p =
@@ -181,7 +182,7 @@ pub over_cause : (setup : Setup) (q : ℕ) (s : State) → (step setup (Proc q) 
 unfolding step outcome next_event
 over_cause setup q s e =
     let there = stray_if (is_place setup q) _ s e in
-    (there.0, over_if (is_over q s) _ s (unless (list_any (runs_in q) s.threads) _ _ (λ h. cc) (next_of_not_over s (pick (λ t. is_of q (by_id s.threads t)) s.line))) there.1)
+    (there.0, over_if (is_over q s) _ s (unless (list_any (runs_in q) s.threads) _ _ (λ h. cc) (next_of_not_over s (first_ready q s))) there.1)
 
 pub over_reply : (setup : Setup) (q : ℕ) (s : State) → is_place setup q ≡ true → is_over q s ≡ true → (step setup (Proc q) Next s).reply ≡ Over
 unfolding step outcome next_event

@@ -14,6 +14,7 @@ use Rattle.p9_manual.specs.declared.state.Ioproc.{Ioproc}
 use Rattle.p9_manual.specs.declared.state.Ioproc.TheVariants.{Unmade, Idle, Posted, Begun, Closed}
 use Rattle.p9_manual.specs.Effects.{message_length}
 use Rattle.p9_manual.specs.State.{State, by_id, placed, at_place, waiting, readied}
+use Rattle.p9_manual.specs.LockWaits.{lined}
 use Rattle.p9_manual.specs.Places.{is_ended}
 use Rattle.p9_manual.specs.Ends.{ended, let_go}
 use Rattle.p9_laws.proofs.Tallies.{tally, tally-push, tally-changed, tally-map, tally-map_same, tally-le, filter_none}
@@ -159,6 +160,15 @@ pushed_other t line u ne = rw (tally-push (λ x. eqb x u) false line t (other_id
 
 pub pushed_here : (t : ℕ) (line : List ℕ) → tally (λ x. eqb x t) line ≡ 0 → tally (λ x. eqb x t) (line ++ t ∷ []) ≡ 1
 pushed_here t line none = rw (tally-push (λ x. eqb x t) true line t (same_id t), none) refl
+
+-- a thread that was woken, first or last in the line
+pub lined_other : (held : Bool) (t : ℕ) (line : List ℕ) (u : ℕ) → u ≢ t → tally (λ x. eqb x u) (lined held t line) ≡ tally (λ x. eqb x u) line
+lined_other true t line u ne = rw (other_id t u ne) (omega arith)
+lined_other false t line u ne = pushed_other t line u ne
+
+pub lined_here : (held : Bool) (t : ℕ) (line : List ℕ) → tally (λ x. eqb x t) line ≡ 0 → tally (λ x. eqb x t) (lined held t line) ≡ 1
+lined_here true t line none = rw (same_id t, none) refl
+lined_here false t line none = pushed_here t line none
 
 pub readied_upright : (s : State) (t : ℕ) (a : Answer) → IsUpright s → RunsIn s t → IsUpright (readied t a s)
 readied_upright s t a upright runs =

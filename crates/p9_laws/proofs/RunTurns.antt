@@ -1,5 +1,5 @@
 -- What an ioproc's event and a proc's turn do.
-use Rattle.std.proofs.Common.{◌≡◌, ◌≢◌, ℕ, ◌+◌, ◌-◌, ◌≤◌, Bool, true, false, not, cond, ◌||◌, eqb, List, [], ◌∷◌, ◌++◌, Option, Some, None, refl, ap, subst, ◌∙◌, inl, inr, arith}
+use Rattle.std.proofs.Common.{◌≡◌, ◌≢◌, ℕ, ◌+◌, ◌-◌, ◌≤◌, Bool, true, false, not, cond, ◌||◌, eqb, List, Option, Some, None, refl, ap, subst, ◌∙◌, inl, inr, arith}
 use Rattle.std.specs.Prelude.{option_map}
 use Rattle.std.specs.List.{list_any}
 use Rattle.std.proofs.lemmas.Bool.{cases_eq}
@@ -14,16 +14,18 @@ use Rattle.p9_manual.specs.declared.state.Thread.{Thread}
 use Rattle.p9_manual.specs.declared.state.Ioproc.{Ioproc}
 use Rattle.p9_manual.specs.declared.state.Ioproc.TheVariants.{Unmade, Idle, Posted, Begun, Closed}
 use Rattle.p9_manual.specs.State.{State, Outcome, by_id, pick, placed, at_place, changed, same, waits_without}
-use Rattle.p9_manual.specs.Places.{lives, is_of, runs_in, is_ended}
+use Rattle.p9_manual.specs.LockWaits.{is_holding, lined, lock_waiters}
+use Rattle.p9_manual.specs.Places.{lives, runs_in, is_ended}
 use Rattle.p9_manual.specs.Stuck.{is_stuck}
 use Rattle.p9_manual.specs.Effects.{fits}
 use Rattle.p9_manual.specs.Ioprocs.{take_call, did_call, io_event, with_ioproc, answered}
-use Rattle.p9_manual.specs.Next.{next_event, next_of, turn, turn_reply, started, stuck, is_place, is_over}
+use Rattle.p9_manual.specs.Next.{next_event, first_ready, next_of, turn, turn_reply, started, stuck, is_place, is_over}
 use Rattle.p9_manual.specs.Step.{makes_entry}
 use Rattle.p9_laws.specs.IoReplies.{IsBegun}
 use Rattle.p9_laws.proofs.Tallies.{tally, tally_pick, tally-changed, tally-put, tally-put_exact, tally-at, tally-filtered_out, tally-filtered_other}
 use Rattle.p9_laws.proofs.Standing.{IsUp, place_of, times_waiting, made_up, get_by_id, by_id-changed_other, times_in_line}
-use Rattle.p9_laws.proofs.RunMoves.{IsUpright, IsMoved, IsFading, is_call_of, is_long, unmoved, placed_moved, placed_upright, same_id, other_id, is_io_wait_of, io_waits, io_wait_tid, pushed_other, pushed_here, apart}
+use Rattle.p9_laws.proofs.RunMoves.{IsUpright, IsMoved, IsFading, is_call_of, is_long, unmoved, placed_moved, placed_upright, same_id, other_id, is_io_wait_of, io_waits, io_wait_tid, lined_other, lined_here, apart}
+use Rattle.p9_laws.proofs.FirstReady.{in_proc, first_parts}
 use Rattle.p9_laws.proofs.RunCalls.{put_upright, begun_elsewhere}
 
 -- what an ioproc's event keeps
@@ -105,8 +107,8 @@ noted k (Some t) call effect s at upright =
     let up = caller_up s.threads t waits in
     record {
       moved = placed_moved s.threads t (Ready _) up (λ e. cc);
-      upright = placed_upright s.threads s.line (s.line ++ t ∷ []) s.waits (waits_without t s.waits) s.ioprocs (changed (λ _. Idle) s.ioprocs (k - 1)) t (Ready _) upright (made_up s.threads t up)
-          (pushed_other t s.line) (pushed_here t s.line (upright.in_line t ∙ ap times_in_line waits))
+      upright = placed_upright s.threads s.line (lined (is_holding t (lock_waiters s.waits)) t s.line) s.waits (waits_without t s.waits) s.ioprocs (changed (λ _. Idle) s.ioprocs (k - 1)) t (Ready _) upright (made_up s.threads t up)
+          (lined_other _ t s.line) (lined_here _ t s.line (upright.in_line t ∙ ap times_in_line waits))
           (λ u ne. tally-filtered_other (λ w. eqb w.tid t) (λ w. eqb w.tid u) (λ w h. apart w.tid t u ne h) s.waits)
           (tally-filtered_out (λ w. eqb w.tid t) s.waits) (answered_calls k t call s at upright)
           (let e = tally-put is_long Idle s.ioprocs (k - 1) in let z = upright.short in omega (arith, e, z));
@@ -203,9 +205,9 @@ if_turned false s o p f g makes = g makes
 stuck_turned : (s : State) → IsUpright s → IsTurned s (stuck s)
 stuck_turned s upright = record { fades = λ q h. omega arith; upright = upright; ioprocs = refl; over = λ h. refl; opened = refl }
 
-next_of_turned : (p : ℕ → Bool) (s : State) (o : Option (ℕ × List ℕ)) → pick p s.line ≡ o → IsUpright s → makes_entry (next_of s o).reply ≡ true → IsTurned s (next_of s o)
+next_of_turned : (p : ℕ) (s : State) (o : Option (ℕ × List ℕ)) → first_ready p s ≡ o → IsUpright s → makes_entry (next_of s o).reply ≡ true → IsTurned s (next_of s o)
 next_of_turned p s None e upright makes = if_turned (is_stuck s) s _ _ (λ m. stuck_turned s upright) (λ m. same_turned s _ upright) makes
-next_of_turned p s (Some found) e upright makes = turn_turned p found.0 found.1 s (by_id s.threads found.0) e refl makes upright
+next_of_turned p s (Some found) e upright makes = turn_turned (in_proc p s) found.0 found.1 s (by_id s.threads found.0) (first_parts p s found e).1 refl makes upright
 
 pub next_turned : (setup : Setup) (p : ℕ) (s : State) → IsUpright s → makes_entry (next_event setup p s).reply ≡ true → IsTurned s (next_event setup p s)
 unfolding next_event
@@ -213,4 +215,4 @@ next_turned setup p s upright makes =
     if_turned (not (is_place setup p)) s _ _ (λ m. same_turned s _ upright)
     (λ m. if_turned (is_over p s) s _ _ (λ m. same_turned s _ upright)
     (λ m. if_turned (list_any (runs_in p) s.threads) s _ _ (λ m. same_turned s _ upright)
-    (λ m. next_of_turned (λ t. is_of p (by_id s.threads t)) s (pick (λ t. is_of p (by_id s.threads t)) s.line) refl upright m) m) m) makes
+    (λ m. next_of_turned p s (first_ready p s) refl upright m) m) m) makes

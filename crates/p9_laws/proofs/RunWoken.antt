@@ -1,5 +1,5 @@
--- What it keeps to wake threads that wait in alts, one or several of them.
-use Rattle.std.proofs.Common.{◌≡◌, ◌≢◌, ℕ, ◌+◌, ◌≤◌, Bool, true, false, not, cond, ◌&&◌, eqb, List, [], ◌∷◌, ◌++◌, Option, Some, None, refl, ap, subst, ◌∙◌, inl, inr, arith}
+-- What it keeps to wake threads that wait, but not for ioprocs, one or several of them.
+use Rattle.std.proofs.Common.{◌≡◌, ◌≢◌, ℕ, ◌+◌, ◌≤◌, Bool, true, false, not, cond, ◌&&◌, eqb, List, [], ◌∷◌, Option, Some, None, refl, ap, subst, ◌∙◌, inl, inr, arith}
 use Rattle.std.proofs.lemmas.Bool.{cases_eq}
 use Rattle.p9_word.specs.declared.answer.Answer.{Answer}
 use Rattle.p9_word.specs.declared.request.Request.{Request}
@@ -9,15 +9,16 @@ use Rattle.p9_manual.specs.declared.state.Place.TheVariants.{Running, New, Ready
 use Rattle.p9_manual.specs.declared.state.Waiter.{Waiter}
 use Rattle.p9_manual.specs.declared.state.Party.{Party}
 use Rattle.p9_manual.specs.State.{State, by_id, at_place, wake, waits_without}
+use Rattle.p9_manual.specs.LockWaits.{is_holding, lined, lock_waiters}
 use Rattle.p9_manual.specs.Offers.{Alternation, alternation_of, party_of, party_with, parties}
 use Rattle.p9_manual.specs.Close.{all_woken}
 use Rattle.p9_laws.proofs.Tallies.{tally, tally-append, tally-filtered_out, tally-filtered_other}
 use Rattle.p9_laws.proofs.Standing.{IsUp, place_of, times_waiting, times_in_line, made_up, by_id-changed_other}
-use Rattle.p9_laws.proofs.RunMoves.{IsUpright, IsMoved, RunsIn, is_call_of, asks_io, is_io_wait_of, io_waits, io_wait_tid, unmoved, moved_on, placed_moved, placed_upright, pushed_other, pushed_here, same_id, other_id, apart}
+use Rattle.p9_laws.proofs.RunMoves.{IsUpright, IsMoved, RunsIn, is_call_of, asks_io, is_io_wait_of, io_waits, io_wait_tid, unmoved, moved_on, placed_moved, placed_upright, lined_other, lined_here, same_id, other_id, apart}
 
 -- thread u waits, but not for an ioproc
-abbrev pub is_chan_wait_of : ℕ → Waiter → Bool
-is_chan_wait_of u w = eqb w.tid u && not (asks_io w.request)
+abbrev pub is_other_wait_of : ℕ → Waiter → Bool
+is_other_wait_of u w = eqb w.tid u && not (asks_io w.request)
 
 -- how often thread u is among these threads
 abbrev pub is_party : ℕ → Party → Bool
@@ -29,12 +30,12 @@ both_step true false n m k h = omega (arith, h)
 both_step false c n m k h = omega (arith, h)
 
 -- a wait is one for an ioproc, or another one
-wait_kinds : (u : ℕ) → (waits : List Waiter) → tally (is_io_wait_of u) waits + tally (is_chan_wait_of u) waits ≡ tally (λ w. eqb w.tid u) waits
+wait_kinds : (u : ℕ) → (waits : List Waiter) → tally (is_io_wait_of u) waits + tally (is_other_wait_of u) waits ≡ tally (λ w. eqb w.tid u) waits
 wait_kinds u [] = refl
 wait_kinds u (w ∷ ws) = both_step (eqb w.tid u) (asks_io w.request) _ _ _ (wait_kinds u ws)
 
-chan_wait_step : (t u : ℕ) (r : Request) (at : ℕ) → tally (is_party u) (party_with t at (alternation_of r)) ≤ cond (eqb t u && not (asks_io r)) 1 0
-chan_wait_step t u (ChanRequest r) at = some_step t u at (alternation_of (ChanRequest r))
+party_wait_step : (t u : ℕ) (r : Request) (at : ℕ) → tally (is_party u) (party_with t at (alternation_of r)) ≤ cond (eqb t u && not (asks_io r)) 1 0
+party_wait_step t u (ChanRequest r) at = some_step t u at (alternation_of (ChanRequest r))
   where
     one_step : (b : Bool) → cond b 1 0 + 0 ≤ cond (b && true) 1 0
     one_step true = omega arith
@@ -43,14 +44,14 @@ chan_wait_step t u (ChanRequest r) at = some_step t u at (alternation_of (ChanRe
     some_step : (t u at : ℕ) (o : Option Alternation) → tally (is_party u) (party_with t at o) ≤ cond (eqb t u && true) 1 0
     some_step t u at None = omega arith
     some_step t u at (Some a) = one_step (eqb t u)
-chan_wait_step t u r at = omega arith
+party_wait_step t u r at = omega arith
 
 -- who waits in an alt waits, but not for an ioproc
-pub parties_wait : (u : ℕ) → (waits : List Waiter) → tally (is_party u) (parties waits) ≤ tally (is_chan_wait_of u) waits
+pub parties_wait : (u : ℕ) → (waits : List Waiter) → tally (is_party u) (parties waits) ≤ tally (is_other_wait_of u) waits
 parties_wait u [] = omega arith
 parties_wait u (w ∷ ws) =
     let a = tally-append (is_party u) (party_of w) (parties ws) in
-    let k = chan_wait_step w.tid u w.request w.at in
+    let k = party_wait_step w.tid u w.request w.at in
     let l = parties_wait u ws in
     omega (arith, a, k, l)
 
@@ -63,11 +64,11 @@ once_waiting Ended a b h k = absurd (omega arith)
 
 -- thread t waits, and not for an ioproc
 abbrev pub WaitsThere : ℕ → State → Type 0
-WaitsThere t s = 1 ≤ tally (is_chan_wait_of t) s.waits
+WaitsThere t s = 1 ≤ tally (is_other_wait_of t) s.waits
 
 there_waits : (s : State) (t : ℕ) → IsUpright s → WaitsThere t s → (place_of s.threads t ≡ Waiting) × (tally (is_io_wait_of t) s.waits ≡ 0)
 there_waits s t upright there =
-    once_waiting (place_of s.threads t) (tally (is_io_wait_of t) s.waits) (tally (is_chan_wait_of t) s.waits) (wait_kinds t s.waits ∙ upright.in_waits t) there
+    once_waiting (place_of s.threads t) (tally (is_io_wait_of t) s.waits) (tally (is_other_wait_of t) s.waits) (wait_kinds t s.waits ∙ upright.in_waits t) there
 
 there_up : (s : State) (t : ℕ) → IsUpright s → WaitsThere t s → IsUp (place_of s.threads t)
 there_up s t upright there = rw ((there_waits s t upright there).0) tt
@@ -91,8 +92,8 @@ woken_calls s t upright there u = elim (cases_eq u t) [
 pub woken_upright : (s : State) (t : ℕ) (a : Answer) → IsUpright s → WaitsThere t s → IsUpright (after_waking t a s)
 woken_upright s t a upright there =
     let waits = (there_waits s t upright there).0 in
-    placed_upright s.threads s.line (s.line ++ t ∷ []) s.waits (waits_without t s.waits) s.ioprocs s.ioprocs t (Ready a) upright (made_up s.threads t (there_up s t upright there))
-    (pushed_other t s.line) (pushed_here t s.line (upright.in_line t ∙ ap times_in_line waits))
+    placed_upright s.threads s.line (lined (is_holding t (lock_waiters s.waits)) t s.line) s.waits (waits_without t s.waits) s.ioprocs s.ioprocs t (Ready a) upright (made_up s.threads t (there_up s t upright there))
+    (lined_other _ t s.line) (lined_here _ t s.line (upright.in_line t ∙ ap times_in_line waits))
     (λ u ne. tally-filtered_other (λ w. eqb w.tid t) (λ w. eqb w.tid u) (λ w h. apart w.tid t u ne h) s.waits)
     (tally-filtered_out (λ w. eqb w.tid t) s.waits) (woken_calls s t upright there) upright.short
 
@@ -105,7 +106,7 @@ runs_elsewhere s t u upright there runs same =
 
 -- these threads wait, each as often as it stands here
 abbrev pub AllWait : List (ℕ × Answer) → State → Type 0
-AllWait ws s = (u : ℕ) → tally (λ w. eqb w.0 u) ws ≤ tally (is_chan_wait_of u) s.waits
+AllWait ws s = (u : ℕ) → tally (λ w. eqb w.0 u) ws ≤ tally (is_other_wait_of u) s.waits
 
 -- what it keeps to wake them, for a thread t that runs
 pub record IsWaking (t : ℕ) (s m : State) : Type 0 where
@@ -129,7 +130,7 @@ others_wait t a ws s upright all u = elim (cases_eq u t) [
       rw same (omega (arith, k, kinds, once))
   | inr ne ↦
       let k = rw (other_id t u ne) at (all u) in
-      let same = tally-filtered_other (λ w. eqb w.tid t) (is_chan_wait_of u) (λ w h. apart w.tid t u ne (chan_wait_tid u w h)) s.waits in
+      let same = tally-filtered_other (λ w. eqb w.tid t) (is_other_wait_of u) (λ w h. apart w.tid t u ne (other_wait_tid u w h)) s.waits in
       omega (arith, k, same)
 ]
   where
@@ -144,8 +145,8 @@ others_wait t a ws s upright all u = elim (cases_eq u t) [
     first_true true c h = refl
     first_true false c h = h
 
-    chan_wait_tid : (u : ℕ) (w : Waiter) → is_chan_wait_of u w ≡ true → eqb w.tid u ≡ true
-    chan_wait_tid u w h = first_true (eqb w.tid u) (not (asks_io w.request)) h
+    other_wait_tid : (u : ℕ) (w : Waiter) → is_other_wait_of u w ≡ true → eqb w.tid u ≡ true
+    other_wait_tid u w h = first_true (eqb w.tid u) (not (asks_io w.request)) h
 
 pub waking : (ws : List (ℕ × Answer)) (t : ℕ) (s : State) → IsUpright s → RunsIn s t → AllWait ws s → IsWaking t s (all_woken ws s)
 waking [] t s upright runs all = record { moved = unmoved s.threads; upright = upright; stays = refl; ioprocs = refl; over = refl; opened = refl }

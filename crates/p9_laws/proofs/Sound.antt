@@ -5,6 +5,7 @@ pub mod Order
 pub mod Entries
 pub mod Parties
 pub mod Stand
+pub mod InTurn
 pub mod Waits
 pub mod Calls
 pub mod Outcomes
@@ -21,4 +22,14 @@ pub mod Fields
 pub mod Threads
 pub mod Ioprocs
 pub mod Next
+pub mod LockGrants
+pub mod LockTurns
+pub mod LockWaking
+pub mod LockWaiting
+pub mod LockHolds
+pub mod LockUnlocks
+pub mod LockMoved
+pub mod LockLists
+pub mod LockRendez
+pub mod Locks
 pub mod Histories

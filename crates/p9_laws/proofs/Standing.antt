@@ -44,13 +44,6 @@ up_not_ended Waiting up e = cc e
 up_not_ended New up e = up
 up_not_ended Ended up e = up
 
-pub up_not_new : (pl : Place) → IsUp pl → pl ≢ New
-up_not_new Running up e = cc e
-up_not_new (Ready a) up e = cc e
-up_not_new Waiting up e = cc e
-up_not_new New up e = up
-up_not_new Ended up e = up
-
 pub by_id-suc : {A : Type 0} (xs : List A) (i : ℕ) → by_id xs (suc i) ≡ slice_get xs i
 by_id-suc xs i = let n : suc i - 1 ≡ i = omega arith in let b : ltb 0 (suc i) ≡ true = search (rules, tests) in rw (b, n) refl
 

@@ -2,7 +2,7 @@
 use Rattle.std.proofs.Common.{◌≡◌, ℕ, suc, ◌-◌, Bool, true, false, not, cond, ◌&&◌, ◌||◌, eqb, List, [], ◌∷◌, Option, Some, None, refl, ◌∙◌, arith, rules, tests}
 use Rattle.std.specs.Prelude.{option_map, slice_get}
 use Rattle.std.specs.List.{list_any}
-use Rattle.std.proofs.lemmas.Bool.{and_parts, true_from_ne_false}
+use Rattle.std.proofs.lemmas.Bool.{and_parts, eqb-true, true_from_ne_false}
 use Rattle.p9_word.specs.declared.io_call.Effect.{Effect}
 use Rattle.p9_word.specs.declared.setup.Setup.{Setup}
 use Rattle.p9_word.specs.declared.trail.Event.{Event}
@@ -18,13 +18,15 @@ use Rattle.p9_manual.specs.declared.state.Ioproc.{Ioproc}
 use Rattle.p9_manual.specs.declared.state.Ioproc.TheVariants.{Unmade, Idle, Posted, Begun, Closed}
 use Rattle.p9_manual.specs.State.{State, Outcome, by_id, pick, same}
 use Rattle.p9_manual.specs.Places.{is_of, runs, runs_in, runs_there, lives, stands_ready, has_call, is_running, is_ready}
-use Rattle.p9_manual.specs.Stuck.{is_stuck}
+use Rattle.p9_manual.specs.Held.{is_held}
+use Rattle.p9_manual.specs.Stuck.{can_run, is_stuck}
 use Rattle.p9_manual.specs.Ioprocs.{take_call, did_call, io_event}
-use Rattle.p9_manual.specs.Next.{next_event, next_of, turn, turn_reply, started, stuck, is_place, is_over}
+use Rattle.p9_manual.specs.Next.{next_event, first_ready, next_of, turn, turn_reply, started, stuck, is_place, is_over}
 use Rattle.p9_manual.specs.Step.{step, outcome, called, makes_entry}
 use Rattle.p9_laws.specs.StuckReplies.{is_ready_thread, IsLined, StuckAlone, StuckCause, StuckTold}
-use Rattle.p9_laws.proofs.Tallies.{tally-at, tally_none, tally_pick}
+use Rattle.p9_laws.proofs.Tallies.{tally-at, tally_none, tally_pick, pick_passes}
 use Rattle.p9_laws.proofs.Standing.{get_by_id, by_id-suc}
+use Rattle.p9_laws.proofs.FirstReady.{in_proc, first_parts}
 
 -- an item that passes is one of those that pass
 pub any_at : {A : Type 0} (q : A → Bool) (xs : List A) (t : ℕ) (x : A) → by_id xs t ≡ Some x → q x ≡ true → list_any q xs ≡ true
@@ -58,7 +60,7 @@ only_if false o p f g = g refl
 pub record IsStill (s : State) : Type 0 where
   pub lives : list_any lives s.threads ≡ true
   pub runs : list_any runs s.threads ≡ false
-  pub ready : list_any stands_ready s.threads ≡ false
+  pub ready : list_any (can_run s) s.threads ≡ false
   pub calls : list_any has_call s.ioprocs ≡ false
 
 parts : (a b c d : Bool) → (a && not b && not c && not d) ≡ true → (a ≡ true) × (b ≡ false) × (c ≡ false) × (d ≡ false)
@@ -70,7 +72,7 @@ parts false b c d h = cc
 
 still : (s : State) → is_stuck s ≡ true → IsStill s
 still s h =
-    let p = parts (list_any lives s.threads) (list_any runs s.threads) (list_any stands_ready s.threads) (list_any has_call s.ioprocs) h in
+    let p = parts (list_any lives s.threads) (list_any runs s.threads) (list_any (can_run s) s.threads) (list_any has_call s.ioprocs) h in
     record { lives = p.0; runs = p.1; ready = p.2; calls = p.3 }
 
 pub clash : (b : Bool) → b ≡ true → b ≡ false → ⊥
@@ -90,24 +92,31 @@ turn_stray t x Running h = refl
 turn_stray t x Waiting h = refl
 turn_stray t x Ended h = refl
 
-unready : (threads : List Thread) (t : ℕ) (x : Thread) → by_id threads t ≡ Some x → list_any stands_ready threads ≡ false → (b : Bool) → is_ready x.place ≡ b → b ≡ false
-unready threads t x at none true h = absurd (clash (list_any stands_ready threads) (any_at stands_ready threads t x at h) none)
-unready threads t x at none false h = refl
+-- a ready thread of a proc that isn't held can run
+ready_runs : (p : ℕ) (s : State) (x : Thread) → eqb x.proc_no p ≡ true → is_held p s ≡ false → stands_ready x ≡ true → can_run s x ≡ true
+ready_runs p s x of free ready = let same = eqb-true x.proc_no p of in rw (ready, same, free) refl
 
-turn_quiet : (t : ℕ) (s more : State) (o : Option Thread) → by_id s.threads t ≡ o → list_any stands_ready s.threads ≡ false → makes_entry (turn t more (option_map started o)).reply ≡ false
-turn_quiet t s more None at none = refl
-turn_quiet t s more (Some x) at none = turn_stray t x x.place (unready s.threads t x at none (is_ready x.place) refl)
+unready : (p t : ℕ) (s : State) (x : Thread) → by_id s.threads t ≡ Some x → eqb x.proc_no p ≡ true → is_held p s ≡ false → list_any (can_run s) s.threads ≡ false → (b : Bool) → is_ready x.place ≡ b → b ≡ false
+unready p t s x at of free none true h = absurd (clash _ (any_at (can_run s) s.threads t x at (ready_runs p s x of free h)) none)
+unready p t s x at of free none false h = refl
 
-next_of_stuck : (s : State) (o : Option (ℕ × List ℕ)) → is_stuck s ≡ true → OnlyStuck (next_of s o)
-next_of_stuck s None h = rw h (λ makes. refl)
-next_of_stuck s (Some found) h = λ makes. absurd (clash _ makes (turn_quiet found.0 s _ (by_id s.threads found.0) refl (still s h).ready))
+turn_quiet : (p t : ℕ) (s more : State) (o : Option Thread) → by_id s.threads t ≡ o → is_of p o ≡ true → is_held p s ≡ false → list_any (can_run s) s.threads ≡ false → makes_entry (turn t more (option_map started o)).reply ≡ false
+turn_quiet p t s more None at of free none = refl
+turn_quiet p t s more (Some x) at of free none = turn_stray t x x.place (unready p t s x at of free none (is_ready x.place) refl)
+
+next_of_stuck : (p : ℕ) (s : State) (o : Option (ℕ × List ℕ)) → first_ready p s ≡ o → is_stuck s ≡ true → OnlyStuck (next_of s o)
+next_of_stuck p s None e h = rw h (λ makes. refl)
+next_of_stuck p s (Some found) e h = λ makes.
+    let at = first_parts p s found e in
+    let of = pick_passes (in_proc p s) s.line found.0 found.1 at.1 in
+    absurd (clash _ makes (turn_quiet p found.0 s _ (by_id s.threads found.0) refl of at.0 (still s h).ready))
 
 next_stuck : (setup : Setup) (p : ℕ) (s : State) → is_stuck s ≡ true → OnlyStuck (next_event setup p s)
 unfolding next_event
 next_stuck setup p s h =
     only_if (not (is_place setup p)) _ _ (λ _ m. cc)
     (λ _. only_if (is_over p s) _ _ (λ _ m. cc)
-    (λ _. only_if (list_any (runs_in p) s.threads) _ _ (λ _ m. cc) (λ _. next_of_stuck s (pick (λ t. is_of p (by_id s.threads t)) s.line) h)))
+    (λ _. only_if (list_any (runs_in p) s.threads) _ _ (λ _ m. cc) (λ _. next_of_stuck p s (first_ready p s) refl h)))
 
 take_stuck : (k : ℕ) (s : State) (o : Option Ioproc) → by_id s.ioprocs k ≡ o → list_any has_call s.ioprocs ≡ false → OnlyStuck (take_call k s o)
 take_stuck k s None at none = λ m. cc
@@ -175,7 +184,7 @@ stuck_cause setup s p e =
     let a = stuck_step (not (is_place setup p)) Stray _ s (λ h. cc) e in
     let b = stuck_step (is_over p s) Over _ s (λ h. cc) a.1 in
     let c = stuck_step (list_any (runs_in p) s.threads) Stray _ s (λ h. cc) b.1 in
-    record { place = unplaced (is_place setup p) a.0; goes_on = b.0; stuck = next_of_cause s (pick (λ t. is_of p (by_id s.threads t)) s.line) c.1 }
+    record { place = unplaced (is_place setup p) a.0; goes_on = b.0; stuck = next_of_cause s (first_ready p s) c.1 }
 
 -- who is in the line is ready
 pub in_line_ready : (setup : Setup) (s : State) (p : ℕ → Bool) (t : ℕ) (rest : List ℕ) → IsLined setup s → pick p s.line ≡ Some (t, rest) → is_ready_thread (by_id s.threads t) ≡ true
@@ -195,17 +204,20 @@ no_runs_in p threads none = none_of (list_any (runs_in p) threads) refl
     none_of true h = let f = found (runs_in p) threads h in absurd (clash _ (any_at runs threads f.0 f.1 f.2 (runs_from p f.1 f.3)) none)
     none_of false h = refl
 
-ready_of : (threads : List Thread) (t : ℕ) (o : Option Thread) → by_id threads t ≡ o → is_ready_thread o ≡ true → list_any stands_ready threads ≡ true
-ready_of threads t None at h = cc
-ready_of threads t (Some x) at h = any_at stands_ready threads t x at h
+ready_of : (p : ℕ) (s : State) (t : ℕ) (o : Option Thread) → by_id s.threads t ≡ o → is_ready_thread o ≡ true → is_of p o ≡ true → is_held p s ≡ false → list_any (can_run s) s.threads ≡ true
+ready_of p s t None at h of free = cc
+ready_of p s t (Some x) at h of free = any_at (can_run s) s.threads t x at (ready_runs p s x of free h)
 
-next_of_told : (setup : Setup) (s : State) (p : ℕ → Bool) (o : Option (ℕ × List ℕ)) → pick p s.line ≡ o → IsLined setup s → is_stuck s ≡ true → (next_of s o).reply ≡ Stuck
+next_of_told : (setup : Setup) (s : State) (p : ℕ) (o : Option (ℕ × List ℕ)) → first_ready p s ≡ o → IsLined setup s → is_stuck s ≡ true → (next_of s o).reply ≡ Stuck
 next_of_told setup s p None e lined h = rw h refl
 next_of_told setup s p (Some found) e lined h =
-    absurd (clash _ (ready_of s.threads found.0 (by_id s.threads found.0) refl (in_line_ready setup s p found.0 found.1 lined e)) (still s h).ready)
+    let at = first_parts p s found e in
+    let of = pick_passes (in_proc p s) s.line found.0 found.1 at.1 in
+    let ready = in_line_ready setup s (in_proc p s) found.0 found.1 lined at.1 in
+    absurd (clash _ (ready_of p s found.0 (by_id s.threads found.0) refl ready of at.0) (still s h).ready)
 
 pub stuck_told : (setup : Setup) (s : State) → StuckTold setup s
 unfolding step outcome next_event
 stuck_told setup s lined p at =
     rw (at.place, at.goes_on, no_runs_in p s.threads (still s at.stuck).runs)
-    (next_of_told setup s (λ t. is_of p (by_id s.threads t)) (pick (λ t. is_of p (by_id s.threads t)) s.line) refl lined at.stuck)
+    (next_of_told setup s p (first_ready p s) refl lined at.stuck)

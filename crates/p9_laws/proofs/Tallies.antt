@@ -1,7 +1,8 @@
 -- How often a test passes in a list, where the list is picked from, added to or changed at an index.
-use Rattle.std.proofs.Common.{◌≡◌, ℕ, zero, suc, ◌+◌, ◌≤◌, Bool, true, false, not, cond, ◌||◌, List, [], ◌∷◌, ◌++◌, map, Option, Some, None, refl, ap, arith}
-use Rattle.std.specs.Prelude.{slice_get}
-use Rattle.std.specs.List.{filter, list_any}
+use Rattle.std.proofs.Common.{◌≡◌, ℕ, zero, suc, ◌+◌, ◌≤◌, Bool, true, false, not, cond, ◌||◌, List, [], ◌∷◌, ◌++◌, map, Option, Some, None, refl, ap, subst, arith}
+use Rattle.std.specs.Prelude.{slice_get, All}
+use Rattle.std.specs.List.{filter, find, list_any}
+use Rattle.std.proofs.lemmas.List.Elements.{All-head, All-tail}
 use Rattle.std.proofs.lemmas.Option.{some_pair_parts}
 use Rattle.p9_manual.specs.State.{changed, pick, behind}
 
@@ -152,3 +153,12 @@ tally-filtered_fewer q p (x ∷ xs) = fewer_step q (p x) x (filter p xs) xs (tal
 pub none_first : (b : Bool) (n : ℕ) → cond b 1 0 + n ≡ 0 → (b ≡ false) × (n ≡ 0)
 none_first true n h = absurd (omega arith)
 none_first false n h = (refl, omega arith)
+
+found_step : {A : Type 0} (P : A → Type 0) (b : Bool) (x w : A) (o : Option A) → P x → cond b (Some x) o ≡ Some w → (o ≡ Some w → P w) → P w
+found_step P true x w o h e later = let same : x ≡ w = cc in subst P same h
+found_step P false x w o h e later = later e
+
+-- what holds of each item holds of the one that is found
+pub found_holds : {A : Type 0} (P : A → Type 0) (p : A → Bool) (w : A) → (xs : List A) → All P xs → find p xs ≡ Some w → P w
+found_holds P p w [] h e = cc
+found_holds P p w (x ∷ xs) h e = found_step P (p x) x w (find p xs) (All-head P x xs h) e (found_holds P p w xs (All-tail P x xs h))

@@ -8,6 +8,7 @@ pub mod Ending
 pub mod Shorthand
 pub mod IoReplies
 pub mod LastCall
+pub mod LockExamples
 pub mod Moves
 pub mod Receipts
 pub mod Refusals

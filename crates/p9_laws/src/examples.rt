@@ -8,6 +8,8 @@ ghost use Rattle.p9_laws.specs.ThreadExamples.{turns_setup, by_turns, ShowsTheTu
 ghost use Rattle.p9_laws.specs.ChannelExamples.{channel_setup, by_a_channel, ShowsTheChannel};
 ghost use Rattle.p9_laws.specs.AltExamples.{ready_setup, one_ready, ShowsNoChoice, choice_setup, two_ready, ShowsTheChoice};
 ghost use Rattle.p9_laws.specs.ClosingExample.{closing_setup, closed_under, ShowsTheClosing};
+ghost use Rattle.p9_laws.specs.LockExamples.{rendez_setup, slept_and_woken, ShowsTheSleep};
+ghost use Rattle.p9_laws.specs.LockExamples.{meeting_setup, met, ShowsTheMeeting, alone_setup, never_met, ShowsTheHeldProc};
 
 /// The copy of a file of the two bytes `hi` is a legal history of a copy's setup.
 pub fn copying_two_bytes_is_legal()
@@ -73,4 +75,34 @@ pub fn closing_a_channel_is_legal()
 /// Nobody waits on it any more, and the three threads are ready.
 pub fn closing_a_channel_wakes_all()
     ensures { ShowsTheClosing }
+{}
+
+/// A thread that sleeps at a Rendez and is woken gets the QLock again once it is given up: a legal history.
+pub fn sleeping_and_waking_is_legal()
+    ensures { IsLegal rendez_setup slept_and_woken }
+{}
+
+/// Once it is woken it waits for the QLock, and at the end it has it.
+pub fn sleeping_and_waking_gives_the_lock_back()
+    ensures { ShowsTheSleep }
+{}
+
+/// Two threads of two procs that come with one tag are told each other's value.
+pub fn meeting_is_legal()
+    ensures { IsLegal meeting_setup met }
+{}
+
+/// The proc of the one that came first is held until the other one comes.
+pub fn meeting_holds_a_proc()
+    ensures { ShowsTheMeeting }
+{}
+
+/// Two threads of one proc never meet: the run is stuck.
+pub fn meeting_in_one_proc_is_stuck()
+    ensures { IsLegal alone_setup never_met }
+{}
+
+/// It is so though the second thread is ready, since its proc is held.
+pub fn meeting_in_one_proc_leaves_a_thread_ready()
+    ensures { ShowsTheHeldProc }
 {}

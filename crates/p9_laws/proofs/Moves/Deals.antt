@@ -1,9 +1,8 @@
 -- What an alt that goes on keeps: a send, and a receive.
 use Rattle.std.proofs.Common.{◌≡◌, ℕ, ◌+◌, Bool, true, false, cond, List, [], ◌∷◌, ◌++◌, Option, Some, None, refl, ap, subst, sym, ◌∙◌}
-use Rattle.std.specs.Prelude.{slice_get, All}
+use Rattle.std.specs.Prelude.{slice_get}
 use Rattle.std.specs.List.{filter, find, cons_option}
 use Rattle.std.proofs.lemmas.List.{append-nil}
-use Rattle.std.proofs.lemmas.List.Elements.{All-head, All-tail}
 use Rattle.p9_word.specs.declared.alt.Slot.{Slot}
 use Rattle.p9_word.specs.declared.trail.Entry.{Entry}
 use Rattle.p9_manual.specs.declared.state.Channel.{Channel}
@@ -16,6 +15,7 @@ use Rattle.p9_manual.specs.Told.{sent_bytes, sender_bytes}
 use Rattle.p9_manual.specs.Alt.{parties_without}
 use Rattle.p9_laws.specs.Senders.{IsSendOf}
 use Rattle.p9_manual.specs.State.{Move, by_id}
+use Rattle.p9_laws.proofs.Tallies.{found_holds}
 use Rattle.p9_laws.proofs.Sound.Places.{by_id-changed_same}
 use Rattle.p9_laws.proofs.Moves.Senders.{first_entry, find_passes, not_of}
 use Rattle.p9_laws.proofs.Moves.Sent.{sent_from}
@@ -28,15 +28,6 @@ KeptAfter H n ms waits d = Kept H (n + 1) (ms ++ cons_option d.moved []) d.chans
 
 pub failed_kept : (H : List Entry) (ms : List Move) (chans : List Channel) (waits : List Party) (me : Party) (i : ℕ) → Kept H me.at ms chans waits → KeptAfter H me.at ms waits (failed me i chans)
 failed_kept H ms chans waits me i k = rw append-nil (kept_later H me.at ms chans waits k)
-
-found_step : (P : Party → Type 0) (b : Bool) (x w : Party) (o : Option Party) → P x → cond b (Some x) o ≡ Some w → (o ≡ Some w → P w) → P w
-found_step P true x w o h e later = let same : x ≡ w = cc in subst P same h
-found_step P false x w o h e later = later e
-
--- what holds of all who wait holds of who is found
-found_holds : (P : Party → Type 0) (p : Party → Bool) (w : Party) → (xs : List Party) → All P xs → find p xs ≡ Some w → P w
-found_holds P p w [] h e = cc
-found_holds P p w (x ∷ xs) h e = found_step P (p x) x w (find p xs) (All-head P x xs h) e (found_holds P p w xs (All-tail P x xs h))
 
 -- what a thread that waits to send gives was sent by its call
 sender_sent : (H : List Entry) (c elsize : ℕ) (w : Party) → IsAsked H w → sends_on c w ≡ true → IsSendOf c elsize (sender_bytes c elsize w) (slice_get H w.at)

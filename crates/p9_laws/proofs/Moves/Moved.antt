@@ -6,6 +6,7 @@ use Rattle.p9_word.specs.declared.request.Request.{Request}
 use Rattle.p9_word.specs.declared.request.Request.TheVariants.{Chan as ChanRequest}
 use Rattle.p9_word.specs.declared.request.ChanReq.{ChanReq}
 use Rattle.p9_word.specs.declared.request.IoReq.{IoReq}
+use Rattle.p9_word.specs.declared.request.LockReq.{LockReq}
 use Rattle.p9_word.specs.declared.request.IoReq.TheVariants.{IoProc, IoRun, CloseIoProc}
 use Rattle.p9_word.specs.declared.io_call.IoCall.{IoCall}
 use Rattle.p9_word.specs.declared.io_call.Effect.{Effect}
@@ -24,15 +25,17 @@ use Rattle.p9_manual.specs.Alt.{Verdict, AllClosed, Commits, NoneReady, MustWait
 use Rattle.p9_manual.specs.Chans.{on_channel, by_alternation, chan_call}
 use Rattle.p9_manual.specs.Effects.{fits, message_length}
 use Rattle.p9_manual.specs.Ioprocs.{make, post_call, close_ioproc, io_call, take_call, did_call, io_event}
-use Rattle.p9_manual.specs.Next.{next_event, next_of, turn, is_place, is_over, started}
-use Rattle.p9_manual.specs.Places.{lives, runs_in, runs_there, is_of}
-use Rattle.p9_manual.specs.State.{Move, State, Outcome, by_id, pick, same, bad}
+use Rattle.p9_manual.specs.Locks.{lock_call}
+use Rattle.p9_manual.specs.Next.{next_event, next_of, first_ready, turn, is_place, is_over, started}
+use Rattle.p9_manual.specs.Places.{lives, runs_in, runs_there}
+use Rattle.p9_manual.specs.State.{Move, State, Outcome, by_id, same, bad}
 use Rattle.p9_manual.specs.Step.{step, outcome, called}
 use Rattle.p9_manual.specs.Stuck.{is_stuck}
 use Rattle.p9_manual.specs.History.{after_entry}
 use Rattle.p9_laws.specs.Moves.{moves_from}
 use Rattle.p9_laws.proofs.Asked.{Does, Answers, ChangesCaller, ChangesAside, MakesThread, MakesProc, GivesWay, Ends, EndsAll}
-use Rattle.p9_laws.proofs.Groups.{Kind, Plain, OfChans, OfIoprocs, served_kind}
+use Rattle.p9_laws.proofs.Groups.{Kind, Plain, OfChans, OfLocks, OfIoprocs, served_kind}
+use Rattle.p9_laws.proofs.AskedLocks.{DoesToLocks, Says, Counts, Gets, GetsInTurn, WaitsFor, GivesUp, Sleeps, Meets, MovesFirst, MovesAll, lock_call_does}
 use Rattle.p9_laws.proofs.AskedChans.{DoesToChans, Tells, MakesChannel, FreesChannel, ClosesChannel, on_channel_does}
 
 -- the value that leaves a channel by an alt with this verdict
@@ -68,7 +71,7 @@ if_none false o p f g = g
 asked_none : (setup : Setup) (t : ℕ) (s : State) (o : Outcome) → Does setup t s o → MovesNone o
 asked_none setup t s _ (Answers a) = refl
 asked_none setup t s _ (ChangesCaller f caller a at leaves grants) = refl
-asked_none setup t s _ (ChangesAside procs holds a grants) = refl
+asked_none setup t s _ (ChangesAside procs a grants) = refl
 asked_none setup t s _ (MakesThread program arg caller at own) = refl
 asked_none setup t s _ (MakesProc program arg caller at own room) = refl
 asked_none setup t s _ GivesWay = refl
@@ -80,6 +83,21 @@ chans_none s _ (Tells a) = refl
 chans_none s _ (MakesChannel cap elsize) = refl
 chans_none s _ (FreesChannel c chan there) = refl
 chans_none s _ (ClosesChannel c chan there) = refl
+
+locks_none : (setup : Setup) (t : ℕ) (s : State) (o : Outcome) → DoesToLocks setup t s o → MovesNone o
+locks_none setup t s _ (Says a) = refl
+locks_none setup t s _ (Counts k value) = refl
+locks_none setup t s _ (Gets l k a grants can) = refl
+locks_none setup t s _ (GetsInTurn l k can) = refl
+locks_none setup t s _ (WaitsFor r waits) = refl
+locks_none setup t s _ (GivesUp l k has) = refl
+locks_none setup t s _ (Sleeps r may) = refl
+locks_none setup t s _ (Meets tag value w found) = refl
+locks_none setup t s _ (MovesFirst r n may) = refl
+locks_none setup t s _ (MovesAll r n may) = refl
+
+lock_call_none : (setup : Setup) (t : ℕ) (r : LockReq) (s : State) → MovesNone (lock_call setup t r s)
+lock_call_none setup t r s = locks_none setup t s _ (lock_call_does setup t r s)
 
 make_none : (k : ℕ) (s : State) (o : Option Ioproc) → MovesNone (make k s o)
 make_none k s (Some Unmade) = refl
@@ -129,7 +147,7 @@ unfolding next_event
 next_event_none setup p s =
     if_none (not (is_place setup p)) _ _ refl
     (if_none (is_over p s) _ _ refl
-    (if_none (list_any (runs_in p) s.threads) _ _ refl (next_of_none s (pick (λ t. is_of p (by_id s.threads t)) s.line))))
+    (if_none (list_any (runs_in p) s.threads) _ _ refl (next_of_none s (first_ready p s))))
 
 -- what an outcome tells, as a list
 abbrev told_by : Outcome → List Move
@@ -157,6 +175,7 @@ kind_moves : (setup : Setup) (t : ℕ) (s : State) (r : Request) (o : Outcome) �
 unfolding chan_call
 kind_moves setup t s _ _ (Plain r o no_alt does) = rw no_alt (nothing_told o (asked_none setup t s o does))
 kind_moves setup t s _ _ (OfChans r) = by_alternation_moves setup t r s (alternation r)
+kind_moves setup t s _ _ (OfLocks r) = nothing_told (lock_call setup t r s) (lock_call_none setup t r s)
 kind_moves setup t s _ _ (OfIoprocs r) = nothing_told (io_call setup t r s) (io_call_none setup t r s)
 
 outcome_moves : (setup : Setup) (seat : Seat) (event : Event) (s : State) → told_by (outcome setup seat event s) ≡ moved_at setup seat event s

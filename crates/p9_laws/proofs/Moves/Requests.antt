@@ -1,14 +1,17 @@
 -- The requests that are no alts, and the events that are no calls, keep what is known of the values on channels.
 use Rattle.std.proofs.Common.{◌≡◌, ℕ, ◌-◌, Bool, true, false, not, cond, ◌||◌, List, [], ◌∷◌, ◌++◌, Option, Some, None, refl, sym, ◌∙◌}
 use Rattle.std.specs.Prelude.{option_map, nat_lt}
-use Rattle.std.specs.List.{filter, list_any}
+use Rattle.std.specs.List.{filter, find, list_any}
 use Rattle.std.proofs.lemmas.List.{append-nil}
 use Rattle.p9_word.specs.declared.answer.Answer.{Answer}
+use Rattle.p9_word.specs.declared.answer.Answer.TheVariants.{Done}
 use Rattle.p9_word.specs.declared.setup.Setup.{Setup}
 use Rattle.p9_word.specs.declared.trail.Entry.{Entry}
 use Rattle.p9_word.specs.declared.request.ChanReq.{ChanReq}
 use Rattle.p9_word.specs.declared.request.Request.TheVariants.{Io as IoRequest}
 use Rattle.p9_word.specs.declared.request.IoReq.{IoReq}
+use Rattle.p9_word.specs.declared.request.LockReq.{LockReq}
+use Rattle.p9_word.specs.declared.request.LockReq.TheVariants.{RSleep}
 use Rattle.p9_word.specs.declared.request.IoReq.TheVariants.{IoProc, IoRun, CloseIoProc}
 use Rattle.p9_word.specs.declared.io_call.IoCall.{IoCall}
 use Rattle.p9_word.specs.declared.io_call.Effect.{Effect}
@@ -23,12 +26,20 @@ use Rattle.p9_manual.specs.Chans.{empty_channel, on_channel}
 use Rattle.p9_manual.specs.Close.{closed_chan, freed_chan, all_failed, all_woken}
 use Rattle.p9_manual.specs.Effects.{fits, message_length}
 use Rattle.p9_manual.specs.Ioprocs.{with_ioproc, make, post_call, close_ioproc, io_call, take_call, answered, did_call, io_event}
-use Rattle.p9_manual.specs.Next.{next_event, next_of, turn, is_place, is_over, started}
-use Rattle.p9_manual.specs.Places.{lives, runs_in, is_of}
-use Rattle.p9_manual.specs.State.{Move, State, Outcome, by_id, changed, pick, waits_without, wake}
+use Rattle.p9_manual.specs.LockCalls.{all_granted, with_grant, with_holds}
+use Rattle.p9_manual.specs.LockWaits.{lock_waiters}
+use Rattle.p9_manual.specs.Locks.{lock_call}
+use Rattle.p9_manual.specs.Next.{next_event, next_of, first_ready, turn, is_place, is_over, started}
+use Rattle.p9_manual.specs.Places.{lives, runs_in}
+use Rattle.p9_manual.specs.Rendez.{sleep}
+use Rattle.p9_manual.specs.RendezCalls.{qlock_of, sleeps_at}
+use Rattle.p9_manual.specs.State.{Move, State, Outcome, by_id, changed, waits_without, wake}
 use Rattle.p9_manual.specs.Stuck.{is_stuck}
+use Rattle.p9_manual.specs.Unlocks.{Grant, release}
+use Rattle.p9_laws.proofs.AskedLocks.{DoesToLocks, Says, Counts, Gets, GetsInTurn, WaitsFor, GivesUp, Sleeps, Meets, MovesFirst, MovesAll, lock_call_does}
 use Rattle.p9_laws.proofs.AskedChans.{DoesToChans, Tells, MakesChannel, FreesChannel, ClosesChannel, on_channel_does}
 use Rattle.p9_laws.proofs.Asked.{Does, Answers, ChangesCaller, ChangesAside, MakesThread, MakesProc, GivesWay, Ends, EndsAll}
+use Rattle.p9_laws.proofs.LocksLeave.{lock_wait_leaves, first_moved_leaves, all_moved_leaves}
 use Rattle.p9_laws.proofs.Sound.Parties.{parties_push, parties_without}
 use Rattle.p9_laws.proofs.Moves.Senders.{not_of}
 use Rattle.p9_laws.proofs.Moves.Kept.{Kept, kept_less, kept_changed, kept_created}
@@ -57,7 +68,7 @@ nobody_left H n ms chans waits k = rw (sym (none_pass waits)) (kept_less (λ w. 
 pub asked_leaves : (setup : Setup) (t : ℕ) (s : State) (o : Outcome) → Does setup t s o → Leaves s o.state
 asked_leaves setup t s _ (Answers x) = λ H n ms k. k
 asked_leaves setup t s _ (ChangesCaller f caller x at leaves grants) = λ H n ms k. k
-asked_leaves setup t s _ (ChangesAside procs holds x grants) = λ H n ms k. k
+asked_leaves setup t s _ (ChangesAside procs x grants) = λ H n ms k. k
 asked_leaves setup t s _ (MakesThread program arg caller at own) = λ H n ms k. k
 asked_leaves setup t s _ (MakesProc program arg caller at own room) = λ H n ms k. k
 asked_leaves setup t s _ GivesWay = λ H n ms k. k
@@ -78,6 +89,31 @@ chans_leave s _ (ClosesChannel c chan there) =
 
 pub on_channel_leaves : (r : ChanReq) (s : State) → Leaves s (on_channel r s).state
 on_channel_leaves r s = chans_leave s _ (on_channel_does r s)
+
+granted_leave : (ts : List ℕ) (s : State) → Leaves s (all_granted ts s)
+granted_leave [] s H n ms k = k
+granted_leave (t ∷ ts) s H n ms k = granted_leave ts (wake t Done s) H n ms (without_leaves t H n ms s.chans s.waits k)
+
+grant_leaves : (g : Grant) (s : State) → Leaves s (with_grant g s)
+grant_leaves g s H n ms k = granted_leave g.granted (with_holds g.holds s) H n ms k
+
+locks_leave : (setup : Setup) (t : ℕ) (s : State) (o : Outcome) → DoesToLocks setup t s o → Leaves s o.state
+locks_leave setup t s _ (Says x) = λ H n ms k. k
+locks_leave setup t s _ (Counts c value) = λ H n ms k. k
+locks_leave setup t s _ (Gets l c x grants can) = λ H n ms k. k
+locks_leave setup t s _ (GetsInTurn l c can) = λ H n ms k. k
+locks_leave setup t s _ (WaitsFor r waits) = λ H n ms k. rw (lock_wait_leaves t s.position r s.waits) k
+locks_leave setup t s _ (GivesUp l c has) = grant_leaves (release l t c s.holds (lock_waiters s.waits)) s
+locks_leave setup t s _ (Sleeps r may) =
+    let g = sleep t r (qlock_of r setup.rendezes) s.holds (lock_waiters s.waits) in
+    λ H n ms k. rw (lock_wait_leaves t (with_grant g s).position (RSleep r) (with_grant g s).waits) (grant_leaves g s H n ms k)
+locks_leave setup t s _ (Meets tag value w found) = λ H n ms k. without_leaves w.tid H n ms s.chans s.waits k
+locks_leave setup t s _ (MovesFirst r n may) =
+    λ H n ms k. rw (first_moved_leaves r (qlock_of r setup.rendezes) (find (sleeps_at r) s.waits) s.waits) k
+locks_leave setup t s _ (MovesAll r n may) = λ H n ms k. rw (all_moved_leaves r (qlock_of r setup.rendezes) s.waits) k
+
+pub lock_call_leaves : (setup : Setup) (t : ℕ) (r : LockReq) (s : State) → Leaves s (lock_call setup t r s).state
+lock_call_leaves setup t r s = locks_leave setup t s _ (lock_call_does setup t r s)
 
 -- a call through an ioproc is no alt
 calling_leaves : (t k at : ℕ) (call : IoCall) (waits : List Waiter) → parties (waits ++ record { tid = t; request = IoRequest (IoRun k call); at = at } ∷ []) ≡ parties waits
@@ -152,4 +188,4 @@ unfolding next_event
 next_event_leaves setup p s =
     if_leaves s (not (is_place setup p)) _ _ (λ H n ms k. k)
     (if_leaves s (is_over p s) _ _ (λ H n ms k. k)
-    (if_leaves s (list_any (runs_in p) s.threads) _ _ (λ H n ms k. k) (next_of_leaves s (pick (λ t. is_of p (by_id s.threads t)) s.line))))
+    (if_leaves s (list_any (runs_in p) s.threads) _ _ (λ H n ms k. k) (next_of_leaves s (first_ready p s))))

@@ -21,6 +21,7 @@ use Rattle.p9_manual.specs.Places.{runs_there}
 use Rattle.p9_laws.specs.Senders.{entries_in}
 use Rattle.p9_manual.specs.Chans.{chan_call, by_alternation, on_channel}
 use Rattle.p9_manual.specs.Ioprocs.{io_call, io_event}
+use Rattle.p9_manual.specs.Locks.{lock_call}
 use Rattle.p9_manual.specs.Next.{next_event}
 use Rattle.p9_laws.specs.Moves.{moves_from}
 use Rattle.p9_laws.proofs.Moves.Moved.{moved_in, moved_at, moves-first}
@@ -28,11 +29,11 @@ use Rattle.p9_manual.specs.History.{after_entry, IsLegalFrom}
 use Rattle.p9_manual.specs.Sound.{IsSound}
 use Rattle.p9_manual.specs.State.{Move, State, Outcome, by_id, same}
 use Rattle.p9_manual.specs.Step.{served, called, outcome, step, counted, makes_entry}
-use Rattle.p9_laws.proofs.Groups.{Kind, Plain, OfChans, OfIoprocs, served_kind}
+use Rattle.p9_laws.proofs.Groups.{Kind, Plain, OfChans, OfLocks, OfIoprocs, served_kind}
 use Rattle.p9_laws.proofs.Moves.Sent.{Asks}
 use Rattle.p9_laws.proofs.Moves.Kept.{kept_later, kept_longer}
 use Rattle.p9_laws.proofs.Moves.Verdicts.{KeptIn, alt_kept}
-use Rattle.p9_laws.proofs.Moves.Requests.{Leaves, asked_leaves, on_channel_leaves, io_call_leaves, io_event_leaves, next_event_leaves}
+use Rattle.p9_laws.proofs.Moves.Requests.{Leaves, asked_leaves, on_channel_leaves, lock_call_leaves, io_call_leaves, io_event_leaves, next_event_leaves}
 
 -- a call that asks for an alt, and is answered later
 pub asks_here : (H : List Entry) (at : ℕ) (seat : Seat) (t : ℕ) (r : Request) (reply : Reply) (a : Alternation) → slice_get H at ≡ Some (record { seat = seat; event = Call t r; reply = reply }) → reply ≡ Waits → alternation_of r ≡ Some a → Asks a.entries (slice_get H at)
@@ -63,6 +64,7 @@ kind_kept : (setup : Setup) (H : List Entry) (ms : List Move) (seat : Seat) (t :
 unfolding chan_call
 kind_kept setup H ms seat t s _ _ (Plain r o no_alt does) here sound k = rw no_alt (nothing_moves H ms s o.state (asked_leaves setup t s o does) k)
 kind_kept setup H ms seat t s _ _ (OfChans r) here sound k = by_alternation_kept setup H ms seat t r s (alternation r) refl here sound k
+kind_kept setup H ms seat t s _ _ (OfLocks r) here sound k = nothing_moves H ms s (lock_call setup t r s).state (lock_call_leaves setup t r s) k
 kind_kept setup H ms seat t s _ _ (OfIoprocs r) here sound k = nothing_moves H ms s (io_call setup t r s).state (io_call_leaves setup t r s) k
 
 -- an entry of a history, which has the reply of this outcome

@@ -143,6 +143,10 @@ module _ {H : List Entry} {ms : List Move} {rs : List Receipt} {last : ℕ → O
   pub more_waits : (w : Waiter) → IsCaller last w → Agrees H ms rs last threads (waits ++ w ∷ []) chans
   more_waits w c = record { counts = a.counts; right = a.right; calls = All-push (IsCaller last) waits w a.calls c }
 
+  -- others wait, each in its last call
+  pub other_waits : {more : List Waiter} → All (IsCaller last) more → Agrees H ms rs last threads more chans
+  other_waits calls = record { counts = a.counts; right = a.right; calls = calls }
+
   -- values move, and elements come
   pub values_move : (mv : List Move) (more : List Channel) → Grows mv chans more → Agrees H (ms ++ mv) rs last threads waits more
   values_move mv more grows =

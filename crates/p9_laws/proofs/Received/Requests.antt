@@ -1,35 +1,46 @@
 -- The requests that move no value.
-use Rattle.std.proofs.Common.{◌≡◌, ℕ, ◌+◌, ◌-◌, ◌≤◌, Bool, true, false, ltb, List, [], ◌∷◌, ◌++◌, length, Option, Some, None, refl, sym, subst}
+use Rattle.std.proofs.Common.{◌≡◌, ℕ, ◌+◌, ◌-◌, ◌≤◌, Bool, true, false, ltb, List, [], ◌∷◌, ◌++◌, length, Option, Some, None, refl, ap, sym, subst, ◌∙◌}
 use Rattle.std.specs.Prelude.{map}
 use Rattle.std.specs.List.{filter}
 use Rattle.p9_manual.specs.declared.state.Party.{Party}
 use Rattle.p9_word.specs.declared.answer.Answer.{Answer}
-use Rattle.p9_word.specs.declared.answer.Answer.TheVariants.{Done, Number}
-use Rattle.p9_word.specs.declared.request.Request.TheVariants.{Io as IoRequest}
+use Rattle.p9_word.specs.declared.answer.Answer.TheVariants.{Done, Met, Number}
+use Rattle.p9_word.specs.declared.request.Request.TheVariants.{Io as IoRequest, Lock as LockRequest}
 use Rattle.p9_word.specs.declared.request.ChanReq.{ChanReq}
 use Rattle.p9_word.specs.declared.request.IoReq.{IoReq}
+use Rattle.p9_word.specs.declared.request.LockReq.{LockReq}
+use Rattle.p9_word.specs.declared.request.LockReq.TheVariants.{RSleep}
 use Rattle.p9_word.specs.declared.request.IoReq.TheVariants.{IoProc, IoRun, CloseIoProc}
 use Rattle.p9_word.specs.declared.io_call.IoCall.{IoCall}
 use Rattle.p9_word.specs.declared.setup.Setup.{Setup}
 use Rattle.p9_word.specs.declared.trail.Entry.{Entry}
 use Rattle.p9_manual.specs.declared.state.Place.TheVariants.{Ready, Ended}
 use Rattle.p9_manual.specs.declared.state.Channel.{Channel}
+use Rattle.p9_manual.specs.declared.state.Waiter.{Waiter}
 use Rattle.p9_manual.specs.declared.state.Ioproc.{Ioproc}
 use Rattle.p9_manual.specs.declared.state.Ioproc.TheVariants.{Unmade, Idle, Posted, Begun, Closed as ClosedIoproc}
 use Rattle.p9_laws.specs.Receipts.{Receipt}
 use Rattle.p9_manual.specs.Effects.{message_length}
-use Rattle.p9_manual.specs.State.{Move, State, Outcome, by_id, changed, now, wake}
+use Rattle.p9_manual.specs.Rendez.{sleep}
+use Rattle.p9_manual.specs.RendezCalls.{for_qlock, qlock_of}
+use Rattle.p9_manual.specs.State.{Move, State, Outcome, by_id, changed, now, wake, waiting}
 use Rattle.p9_manual.specs.Offers.{parties}
 use Rattle.p9_manual.specs.AltEntries.{is_on, waits_on, first_number}
 use Rattle.p9_manual.specs.Told.{failed_answer}
 use Rattle.p9_manual.specs.Create.{fresh}
 use Rattle.p9_manual.specs.Close.{closed_chan, freed_chan, failed_on, all_failed, all_woken}
 use Rattle.p9_manual.specs.Chans.{empty_channel, on_channel}
+use Rattle.p9_manual.specs.LockCalls.{all_granted, with_grant, with_holds}
+use Rattle.p9_manual.specs.LockWaits.{lock_waiters}
+use Rattle.p9_manual.specs.Locks.{lock_call}
 use Rattle.p9_manual.specs.Ioprocs.{with_ioproc, make, post_call, close_ioproc, io_call}
+use Rattle.p9_manual.specs.Unlocks.{Grant, release}
+use Rattle.p9_laws.proofs.AskedLocks.{DoesToLocks, Says, Counts, Gets, GetsInTurn, WaitsFor, GivesUp, Sleeps, Meets, MovesFirst, MovesAll, lock_call_does}
+use Rattle.p9_laws.proofs.LocksLeave.{first_moved_holds, all_moved_holds}
 use Rattle.p9_laws.proofs.AskedChans.{DoesToChans, Tells, MakesChannel, FreesChannel, ClosesChannel, on_channel_does}
 use Rattle.p9_laws.proofs.Asked.{Does, Answers, ChangesCaller, ChangesAside, MakesThread, MakesProc, GivesWay, Ends, EndsAll}
 use Rattle.p9_laws.proofs.Received.Places.{IsQuiet}
-use Rattle.p9_laws.proofs.Received.Agrees.{Agrees, put_quietly, left_there, one_more, all_gone, fewer_waits, other_chans}
+use Rattle.p9_laws.proofs.Received.Agrees.{Agrees, IsCaller, put_quietly, left_there, one_more, all_gone, fewer_waits, other_chans, other_waits}
 use Rattle.p9_laws.proofs.Received.Grows.{Grows, grows_same, grows_push, grows_changed}
 use Rattle.p9_laws.proofs.Received.Outcomes.{Stays, if_stays, now_stays, bad_stays, done_stays, waiting_stays}
 
@@ -37,7 +48,7 @@ pub asked_stays : (setup : Setup) (t : ℕ) (s : State) (o : Outcome) → Does s
 asked_stays setup t s _ (Answers x) = now_stays t s x
 asked_stays setup t s _ (ChangesCaller f caller x at leaves grants) =
     record { silent = refl; grows = grows_same [] s.chans; agrees = λ H ms rs last e a. left_there a f leaves.place (t - 1) }
-asked_stays setup t s _ (ChangesAside procs holds x grants) = record { silent = refl; grows = grows_same [] s.chans; agrees = λ H ms rs last e a. a }
+asked_stays setup t s _ (ChangesAside procs x grants) = record { silent = refl; grows = grows_same [] s.chans; agrees = λ H ms rs last e a. a }
 asked_stays setup t s _ (MakesThread program arg caller at own) =
     record { silent = refl; grows = grows_same [] s.chans; agrees = λ H ms rs last e a. one_more a (fresh caller.proc_no program arg caller.group) refl }
 asked_stays setup t s _ (MakesProc program arg caller at own room) =
@@ -50,6 +61,77 @@ asked_stays setup t s _ GivesWay = done_stays t s Done (record { nothing = λ u.
 asked_stays setup t s _ Ends =
     record { silent = refl; grows = grows_same [] s.chans; agrees = λ H ms rs last e a. fewer_waits (put_quietly a t Ended (record { nothing = λ u. refl; unsent = refl })) t }
 asked_stays setup t s _ EndsAll = record { silent = refl; grows = grows_same [] s.chans; agrees = λ H ms rs last e a. all_gone a }
+
+-- a thread that waits is woken, and told nothing of a value
+woken_agrees : (H : List Entry) (ms : List Move) (rs : List Receipt) (last : ℕ → Option ℕ) (t : ℕ) (x : Answer) (s : State) → IsQuiet (Ready x) → Agrees H ms rs last s.threads s.waits s.chans → Agrees H ms rs last (wake t x s).threads (wake t x s).waits (wake t x s).chans
+woken_agrees H ms rs last t x s quiet a = fewer_waits (put_quietly a t (Ready x) quiet) t
+
+granted_agrees : (H : List Entry) (ms : List Move) (rs : List Receipt) (last : ℕ → Option ℕ) → (ts : List ℕ) (s : State) → Agrees H ms rs last s.threads s.waits s.chans → Agrees H ms rs last (all_granted ts s).threads (all_granted ts s).waits (all_granted ts s).chans
+granted_agrees H ms rs last [] s a = a
+granted_agrees H ms rs last (t ∷ ts) s a =
+    granted_agrees H ms rs last ts (wake t Done s) (woken_agrees H ms rs last t Done s (record { nothing = λ u. refl; unsent = refl }) a)
+
+-- who is granted a lock leaves the channels, and the position
+granted_chans : (ts : List ℕ) (s : State) → (all_granted ts s).chans ≡ s.chans
+granted_chans [] s = refl
+granted_chans (t ∷ ts) s = granted_chans ts (wake t Done s)
+
+granted_position : (ts : List ℕ) (s : State) → (all_granted ts s).position ≡ s.position
+granted_position [] s = refl
+granted_position (t ∷ ts) s = granted_position ts (wake t Done s)
+
+grant_stays : (t : ℕ) (g : Grant) (x : Answer) (s : State) → Stays t s (now x (with_grant g s))
+grant_stays t g x s =
+    record {
+      silent = refl;
+      grows = subst (λ (chans : List Channel). Grows [] s.chans chans) (sym (granted_chans g.granted (with_holds g.holds s))) (grows_same [] s.chans);
+      agrees = λ H ms rs last e a. granted_agrees H ms rs last g.granted (with_holds g.holds s) a;
+    }
+
+sleep_stays : (t r : ℕ) (g : Grant) (s : State) → 1 ≤ t → Stays t s (waiting t (LockRequest (RSleep r)) (with_grant g s))
+sleep_stays t r g s made =
+    let k = grant_stays t g Done s in
+    let w = waiting_stays t (with_grant g s) (LockRequest (RSleep r)) made in
+    record {
+      silent = refl;
+      grows = k.grows;
+      agrees = λ H ms rs last e a. w.agrees H ms rs last (e ∙ ap Some (sym (granted_position g.granted (with_holds g.holds s)))) (k.agrees H ms rs last e a);
+    }
+
+-- a sleeper that is moved waits in its last call still
+moved_caller : (last : ℕ → Option ℕ) (q : ℕ) (w : Waiter) → IsCaller last w → IsCaller last (for_qlock q w)
+moved_caller last q w c = record { made = c.made; is_last = c.is_last }
+
+locks_stay : (setup : Setup) (t : ℕ) (s : State) (o : Outcome) → DoesToLocks setup t s o → 1 ≤ t → Stays t s o
+locks_stay setup t s _ (Says x) made = now_stays t s x
+locks_stay setup t s _ (Counts c value) made = record { silent = refl; grows = grows_same [] s.chans; agrees = λ H ms rs last e a. a }
+locks_stay setup t s _ (Gets l c x grants can) made = record { silent = refl; grows = grows_same [] s.chans; agrees = λ H ms rs last e a. a }
+locks_stay setup t s _ (GetsInTurn l c can) made =
+    record { silent = refl; grows = grows_same [] s.chans; agrees = λ H ms rs last e a. put_quietly a t (Ready Done) (record { nothing = λ u. refl; unsent = refl }) }
+locks_stay setup t s _ (WaitsFor r waits) made = waiting_stays t s (LockRequest r) made
+locks_stay setup t s _ (GivesUp l c has) made = grant_stays t (release l t c s.holds (lock_waiters s.waits)) Done s
+locks_stay setup t s _ (Sleeps r may) made = sleep_stays t r (sleep t r (qlock_of r setup.rendezes) s.holds (lock_waiters s.waits)) s made
+locks_stay setup t s _ (Meets tag value w found) made =
+    record {
+      silent = refl;
+      grows = grows_same [] s.chans;
+      agrees = λ H ms rs last e a. woken_agrees H ms rs last w.tid (Met value) s (record { nothing = λ u. refl; unsent = refl }) a;
+    }
+locks_stay setup t s _ (MovesFirst r n may) made =
+    record {
+      silent = refl;
+      grows = grows_same [] s.chans;
+      agrees = λ H ms rs last e a. other_waits a (first_moved_holds (IsCaller last) (moved_caller last) r (qlock_of r setup.rendezes) s.waits a.calls);
+    }
+locks_stay setup t s _ (MovesAll r n may) made =
+    record {
+      silent = refl;
+      grows = grows_same [] s.chans;
+      agrees = λ H ms rs last e a. other_waits a (all_moved_holds (IsCaller last) (moved_caller last) r (qlock_of r setup.rendezes) s.waits a.calls);
+    }
+
+pub lock_call_stays : (setup : Setup) (t : ℕ) (r : LockReq) (s : State) → 1 ≤ t → Stays t s (lock_call setup t r s)
+lock_call_stays setup t r s made = locks_stay setup t s _ (lock_call_does setup t r s) made
 
 ioproc_stays : (t k : ℕ) (io : Ioproc) (x : Answer) (s : State) → Stays t s (now x (with_ioproc k io s))
 ioproc_stays t k io x s = record { silent = refl; grows = grows_same [] s.chans; agrees = λ H ms rs last e a. a }

@@ -3,7 +3,7 @@ use Rattle.std.proofs.Common.{◌≡◌, ℕ, zero, suc, ◌+◌, ◌≤◌, Boo
 use Rattle.std.specs.List.{AllByRecursion}
 use Rattle.std.proofs.lemmas.List.Elements.{All-from_recursion, recursion_from_All}
 use Rattle.p9_word.specs.declared.request.Request.{Request}
-use Rattle.p9_word.specs.declared.request.Request.TheVariants.{Chan as ChanRequest, Io as IoRequest}
+use Rattle.p9_word.specs.declared.request.Request.TheVariants.{Chan as ChanRequest, Lock as LockRequest, Io as IoRequest}
 use Rattle.p9_word.specs.declared.request.ChanReq.{ChanReq}
 use Rattle.p9_word.specs.declared.setup.Setup.{Setup}
 use Rattle.p9_word.specs.declared.trail.Entry.{Entry}
@@ -27,12 +27,12 @@ use Rattle.p9_manual.specs.Standing.{times, place_of, times_in_waits}
 use Rattle.p9_manual.specs.State.{Move, State, Outcome, by_id}
 use Rattle.p9_manual.specs.Step.{makes_entry, called, outcome, step, counted}
 use Rattle.p9_laws.proofs.Sound.Running.{place_runs}
-use Rattle.p9_laws.proofs.Groups.{Kind, Plain, OfChans, OfIoprocs, served_kind}
+use Rattle.p9_laws.proofs.Groups.{Kind, Plain, OfChans, OfLocks, OfIoprocs, served_kind}
 use Rattle.p9_laws.proofs.Received.Agrees.{Agrees, IsCaller, IsRight, right_at, right_quiet}
 use Rattle.p9_laws.proofs.Received.Grows.{grows_same}
 use Rattle.p9_laws.proofs.Received.Outcomes.{Keeps, stays_keeps}
 use Rattle.p9_laws.proofs.Received.Alts.{alt_keeps}
-use Rattle.p9_laws.proofs.Received.Requests.{asked_stays, io_call_stays, on_channel_stays}
+use Rattle.p9_laws.proofs.Received.Requests.{asked_stays, io_call_stays, lock_call_stays, on_channel_stays}
 use Rattle.p9_laws.proofs.Received.Turns.{GoesRight, stray_right, silent_nothing, silent_no_turn, next_right, io_take_right, io_did_right}
 
 by_alternation_keeps : (setup : Setup) (t : ℕ) (r : ChanReq) (s : State) (o : Option Alternation) → alternation r ≡ o → 1 ≤ t → Keeps t (ChanRequest r) s (moved_in setup t s o) (by_alternation setup t r s o)
@@ -46,6 +46,7 @@ chan_call_keeps setup t r s made = by_alternation_keeps setup t r s (alternation
 kind_keeps : (setup : Setup) (t : ℕ) (s : State) (r : Request) (o : Outcome) → Kind setup t s r o → 1 ≤ t → Keeps t r s (moved_in setup t s (alternation_of r)) o
 kind_keeps setup t s _ _ (Plain r o no_alt does) made = rw no_alt (stays_keeps t r s o (asked_stays setup t s o does))
 kind_keeps setup t s _ _ (OfChans r) made = chan_call_keeps setup t r s made
+kind_keeps setup t s _ _ (OfLocks r) made = stays_keeps t (LockRequest r) s _ (lock_call_stays setup t r s made)
 kind_keeps setup t s _ _ (OfIoprocs r) made = stays_keeps t (IoRequest r) s _ (io_call_stays setup t r s made)
 
 no_thread_runs : (p : ℕ) (threads : List Thread) (t : ℕ) → runs_there p (by_id threads t) ≡ true → 1 ≤ t

@@ -18,14 +18,14 @@ use Rattle.p9_manual.specs.declared.state.Place.TheVariants.{Running, New, Ready
 use Rattle.p9_manual.specs.declared.state.Thread.{Thread}
 use Rattle.p9_manual.specs.declared.state.Ioproc.{Ioproc}
 use Rattle.p9_manual.specs.declared.state.Ioproc.TheVariants.{Unmade, Idle, Posted, Begun, Closed}
-use Rattle.p9_manual.specs.Places.{lives, runs_in, is_of}
+use Rattle.p9_manual.specs.Places.{lives, runs_in}
 use Rattle.p9_laws.specs.Receipts.{Receipt, received_at, received_by}
 use Rattle.p9_laws.specs.LastCall.{call_position}
 use Rattle.p9_manual.specs.Effects.{fits}
 use Rattle.p9_manual.specs.Ioprocs.{with_ioproc, take_call, did_call, answered, effect_answer, io_event}
-use Rattle.p9_manual.specs.Next.{is_place, is_over, turn_reply, started, turn, next_of, next_event}
+use Rattle.p9_manual.specs.Next.{is_place, is_over, turn_reply, started, turn, first_ready, next_of, next_event}
 use Rattle.p9_manual.specs.Stuck.{is_stuck}
-use Rattle.p9_manual.specs.State.{Move, State, Outcome, by_id, pick, placed, same}
+use Rattle.p9_manual.specs.State.{Move, State, Outcome, by_id, placed, same}
 use Rattle.p9_manual.specs.Step.{makes_entry}
 use Rattle.p9_manual.specs.Standing.{place_of, place_in}
 use Rattle.p9_laws.proofs.Sound.Counts.{times-append}
@@ -138,7 +138,7 @@ next_right setup p s =
     (stray_right s Next Over refl)
     (if_right s Next (list_any (runs_in p) s.threads) _ _
     (stray_right s Next Stray refl)
-    (next_of_right s (pick (λ t. is_of p (by_id s.threads t)) s.line))))
+    (next_of_right s (first_ready p s))))
 
 take_right : (k : ℕ) (s : State) (o : Option Ioproc) → GoesRight s IoTake [] (take_call k s o)
 take_right k s None = stray_right s IoTake Stray refl

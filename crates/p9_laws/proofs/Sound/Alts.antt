@@ -14,6 +14,7 @@ use Rattle.p9_word.specs.declared.request.Request.TheVariants.{Chan as ChanReque
 use Rattle.p9_word.specs.declared.request.ChanReq.{ChanReq}
 use Rattle.p9_word.specs.declared.setup.Setup.{Setup}
 use Rattle.p9_word.specs.declared.limits.TheConstants.{MOST_ENTRIES}
+use Rattle.p9_manual.specs.declared.state.Place.TheVariants.{Waiting}
 use Rattle.p9_manual.specs.declared.state.Channel.{Channel}
 use Rattle.p9_manual.specs.declared.state.Waiter.{Waiter}
 use Rattle.p9_manual.specs.declared.state.Party.{Party}
@@ -23,6 +24,7 @@ use Rattle.p9_manual.specs.Commit.{commit}
 use Rattle.p9_manual.specs.Alt.{Verdict, AllClosed, Commits, NoneReady, MustWait, is_closed_list, chosen, unready, verdict_on, verdict_of, with_woken, decided, with_draw, alt}
 use Rattle.p9_manual.specs.State.{State, done}
 use Rattle.p9_manual.specs.Sound.{IsSound, WaitRightly, IsWithin}
+use Rattle.p9_laws.proofs.Sound.InTurn.{aside_in_turn}
 use Rattle.p9_laws.proofs.Sound.Waits.{more_rightly}
 use Rattle.p9_laws.proofs.Sound.Calls.{pushed_match}
 use Rattle.p9_laws.proofs.Sound.Outcomes.{IsFine, RunsIn, so_far, if_fine, bad_fine, done_fine, waiting_fine, wait_of, moved_fine}
@@ -77,6 +79,7 @@ with_chans_sound setup s chans right within sound =
       opened = sound.opened;
       waits_right = right;
       within = within;
+      in_turn = sound.in_turn;
       order = sound.order;
       calls = sound.calls;
     }
@@ -89,6 +92,7 @@ drawn_sound setup entries s sound =
       opened = sound.opened;
       waits_right = sound.waits_right;
       within = sound.within;
+      in_turn = sound.in_turn;
       order = sound.order;
       calls = sound.calls;
     }
@@ -110,6 +114,7 @@ decided_fine setup t r a s MustWait e f h sound runs =
     (more_rightly s.chans s.waits (wait_of t (ChanRequest r) s) (party t s.position a) (ap (party_with t s.position) e) (ap is_some e)
     (stopped s.chans s.waits (party t s.position a) sound.waits_right f h) sound.waits_right)
     (pushed_match s.ioprocs s.waits (wait_of t (ChanRequest r) s) (λ k. refl) sound.calls)
+    (aside_in_turn s.threads s.holds s.waits (wait_of t (ChanRequest r) s) t Waiting refl refl sound.in_turn)
 
 pub alt_fine : (setup : Setup) (t : ℕ) (r : ChanReq) (a : Alternation) (s : State) → alternation r ≡ Some a → IsSound setup s → RunsIn s t → IsFine setup s.position (alt setup t (ChanRequest r) a s)
 alt_fine setup t r a s e sound runs =

@@ -90,6 +90,11 @@ same_calls ioprocs waits others same match' = record { calls = λ k. same k ∙ 
 pub without_match : (ioprocs : List Ioproc) (waits : List Waiter) (t : ℕ) → times (λ w. eqb w.tid t) waits ≤ times (is_tid t) (parties waits) → CallsMatch ioprocs waits → CallsMatch ioprocs (waits_without t waits)
 without_match ioprocs waits t h match' = same_calls ioprocs waits (waits_without t waits) (λ k. party_calls k t waits h) match'
 
+-- without the waits of a thread that has no call
+pub uncalled_match : (ioprocs : List Ioproc) (waits : List Waiter) (t : ℕ) → ((k : ℕ) → times (is_for t) (waiting_calls k waits) ≡ 0) → CallsMatch ioprocs waits → CallsMatch ioprocs (waits_without t waits)
+uncalled_match ioprocs waits t none match' =
+    same_calls ioprocs waits (waits_without t waits) (λ k. calls_without k t waits ∙ filter_none (is_for t) (waiting_calls k waits) (none k)) match'
+
 -- one more wait that is in no call
 pub pushed_match : (ioprocs : List Ioproc) (waits : List Waiter) (w : Waiter) → ((k : ℕ) → call_at k w ≡ []) → CallsMatch ioprocs waits → CallsMatch ioprocs (waits ++ w ∷ [])
 pushed_match ioprocs waits w none match' =

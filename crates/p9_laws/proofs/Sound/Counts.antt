@@ -82,10 +82,6 @@ pub times_parts : {A : Type 0} (q p : A → Bool) → (ws : List A) → times q 
 times_parts q p [] = refl
 times_parts q p (w ∷ ws) = split_step q (p w) w (filter p ws) (filter (λ x. not (p x)) ws) ws (times_parts q p ws)
 
--- none passes of a part of a list of which none passes
-pub none_kept : {A : Type 0} (q p : A → Bool) (ws : List A) → times q ws ≡ 0 → times q (filter (λ w. not (p w)) ws) ≡ 0
-none_kept q p ws h = let k = times_parts q p ws in omega (arith, k)
-
 cleared_step : {A : Type 0} (q : A → Bool) (b : Bool) (w : A) (ws : List A) → q w ≡ b → times q ws ≡ 0 → times q (cond (not b) (w ∷ ws) ws) ≡ 0
 cleared_step q true w ws h e = e
 cleared_step q false w ws h e = rw h (omega arith)

@@ -9,12 +9,15 @@ use Rattle.p9_word.specs.declared.answer.Answer.TheVariants.{Number}
 use Rattle.p9_manual.specs.declared.state.Place.TheVariants.{New, Ended}
 use Rattle.p9_manual.specs.declared.state.Thread.{Thread}
 use Rattle.p9_manual.specs.declared.state.Waiter.{Waiter}
+use Rattle.p9_manual.specs.LockWaits.{lock_waiters}
 use Rattle.p9_manual.specs.Places.{runs_in}
 use Rattle.p9_manual.specs.State.{State, by_id, now, done}
 use Rattle.p9_manual.specs.Create.{fresh, with_thread}
 use Rattle.p9_manual.specs.Standing.{StandOnce, times, place_of, place_in, times_in_line, times_in_waits}
 use Rattle.p9_manual.specs.Sound.{IsSound, IsThreadIn}
+use Rattle.p9_laws.proofs.LockWaiters.{nobody_past}
 use Rattle.p9_laws.proofs.Sound.Counts.{times-push}
+use Rattle.p9_laws.proofs.Sound.InTurn.{made_in_turn}
 use Rattle.p9_laws.proofs.Sound.Places.{by_id-push_same, by_id-push_other, by_id-past, runs_before}
 use Rattle.p9_laws.proofs.Sound.Stand.{eqb_same, eqb_other, member_at}
 use Rattle.p9_laws.proofs.Sound.Outcomes.{IsFine, RunsIn, now_fine, done_fine}
@@ -73,6 +76,7 @@ with_thread_sound setup s p program arg group here one sound =
       opened = sound.opened;
       waits_right = sound.waits_right;
       within = sound.within;
+      in_turn = made_in_turn s.threads s.holds (lock_waiters s.waits) (fresh p program arg group) (λ q. no_one (eqb p q)) (nobody_past s.threads s.line s.waits sound.stand) sound.in_turn;
       order = sound.order;
       calls = sound.calls;
     }
@@ -92,6 +96,7 @@ opened_sound setup s room sound =
       opened = room;
       waits_right = sound.waits_right;
       within = sound.within;
+      in_turn = sound.in_turn;
       order = sound.order;
       calls = sound.calls;
     }

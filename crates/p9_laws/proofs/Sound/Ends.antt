@@ -1,5 +1,5 @@
 -- The ends of threads, one or all of them, keep a sound state sound.
-use Rattle.std.proofs.Common.{◌≡◌, ℕ, ◌≤◌, not, eqb, List, [], ◌∷◌, map, Option, Some, None, refl, ap, sym, ◌∙◌, arith}
+use Rattle.std.proofs.Common.{◌≡◌, ℕ, ◌≤◌, eqb, List, [], ◌∷◌, map, Option, Some, None, refl, ap, sym, ◌∙◌, arith}
 use Rattle.std.specs.Prelude.{option_map}
 use Rattle.std.proofs.lemmas.List.Elements.{All-map, All-weaker}
 use Rattle.p9_word.specs.declared.setup.Setup.{Setup}
@@ -7,14 +7,16 @@ use Rattle.p9_manual.specs.declared.state.Place.TheVariants.{Ended}
 use Rattle.p9_manual.specs.declared.state.Thread.{Thread}
 use Rattle.p9_manual.specs.declared.state.Ioproc.{Ioproc}
 use Rattle.p9_manual.specs.declared.state.Ioproc.TheVariants.{Unmade, Idle, Posted, Begun, Closed}
+use Rattle.p9_manual.specs.LockWaits.{lock_waiters}
 use Rattle.p9_manual.specs.Places.{runs_in}
-use Rattle.p9_manual.specs.State.{State, by_id}
+use Rattle.p9_manual.specs.State.{State, by_id, waits_without}
 use Rattle.p9_manual.specs.Ends.{ended, all_ended, at_end, let_all_go}
 use Rattle.p9_manual.specs.Standing.{StandOnce, times, place_of, place_in, times_in_line, times_in_waits}
 use Rattle.p9_manual.specs.Sound.{IsSound, IsThreadIn, CallsMatch, call_of, message_at}
 use Rattle.p9_laws.proofs.Sound.Places.{by_id-map}
 use Rattle.p9_laws.proofs.Sound.Running.{at_rest}
-use Rattle.p9_laws.proofs.Sound.Order.{filtered_order, nobody_in_order}
+use Rattle.p9_laws.proofs.Sound.InTurn.{placed_in_turn, without_in_turn, nobody_in_turn}
+use Rattle.p9_laws.proofs.Sound.Order.{without_order, nobody_in_order}
 use Rattle.p9_laws.proofs.Sound.Stand.{ended_stands, members_placed}
 use Rattle.p9_laws.proofs.Sound.Waits.{without_rightly, nobody_rightly}
 use Rattle.p9_laws.proofs.Sound.Calls.{ended_match}
@@ -28,7 +30,8 @@ ended_sound setup s t sound runs =
       opened = sound.opened;
       waits_right = without_rightly s.chans s.waits t sound.waits_right;
       within = sound.within;
-      order = filtered_order s.position s.waits (λ w. not (eqb w.tid t)) sound.order;
+      in_turn = placed_in_turn s.threads s.holds (lock_waiters (waits_without t s.waits)) t Ended refl (without_in_turn s.threads s.holds s.waits t sound.in_turn);
+      order = without_order s.position s.waits t sound.order;
       calls = ended_match t s.ioprocs s.waits sound.calls;
     }
 
@@ -93,6 +96,7 @@ all_ended_sound setup s sound =
       opened = sound.opened;
       waits_right = nobody_rightly s.chans;
       within = sound.within;
+      in_turn = nobody_in_turn (map at_end s.threads) s.holds (λ p. let none = none_runs p s.threads in omega (arith, none));
       order = nobody_in_order s.position;
       calls = nobody_match s.ioprocs sound.calls.messages;
     }

@@ -3,14 +3,19 @@ use Rattle.std.proofs.Common.{◌≡◌, ℕ, zero, suc, ◌+◌, ◌-◌, cond,
 use Rattle.std.specs.Prelude.{slice_get}
 use Rattle.p9_word.specs.Setup.{IsBetween}
 use Rattle.p9_word.specs.declared.setup.Setup.{Setup}
+use Rattle.p9_manual.specs.declared.locks.LockWaiter.{LockWaiter}
 use Rattle.p9_manual.specs.declared.state.Thread.{Thread}
 use Rattle.p9_manual.specs.declared.state.Waiter.{Waiter}
+use Rattle.p9_manual.specs.Holds.{Holds}
+use Rattle.p9_manual.specs.LockWaits.{lock_waiters}
 use Rattle.p9_manual.specs.Places.{runs_in}
+use Rattle.p9_manual.specs.SoundLocks.{WaitInTurn}
 use Rattle.p9_manual.specs.State.{State, changed}
 use Rattle.p9_manual.specs.Threads.{with_changed}
 use Rattle.p9_manual.specs.Standing.{StandOnce, times, place_of, place_in, times_in_line, times_in_waits}
 use Rattle.p9_manual.specs.Sound.{IsSound, IsThreadIn}
 use Rattle.p9_laws.proofs.Asked.{LeavesStanding}
+use Rattle.p9_laws.proofs.LockWaiters.{holders_changed}
 use Rattle.p9_laws.proofs.Sound.Counts.{All-changed}
 use Rattle.p9_laws.proofs.Sound.Places.{by_id-suc}
 
@@ -47,6 +52,18 @@ member_left f leaves opened programs x m =
       program = subst (λ (n : ℕ). IsBetween 1 programs n) (sym (leaves.program x)) m.program;
     }
 
+turn_left : (f : Thread → Thread) → LeavesStanding f → (threads : List Thread) (holds : Holds) (ws : List LockWaiter) (i : ℕ) → WaitInTurn threads holds ws → WaitInTurn (changed f threads i) holds ws
+turn_left f leaves threads holds ws i turn =
+    record {
+      held = λ p.
+          let same = holders_changed f leaves.proc_no p threads i ws in
+          let runs = runs_left f leaves p threads i in
+          let one = turn.held p in
+          omega (arith, same, runs, one);
+      free = turn.free;
+      tags = turn.tags;
+    }
+
 pub with_changed_sound : (setup : Setup) (f : Thread → Thread) (t : ℕ) (s : State) → LeavesStanding f → IsSound setup s → IsSound setup (with_changed f t s)
 with_changed_sound setup f t s leaves sound =
     record {
@@ -55,6 +72,7 @@ with_changed_sound setup f t s leaves sound =
       opened = sound.opened;
       waits_right = sound.waits_right;
       within = sound.within;
+      in_turn = turn_left f leaves s.threads s.holds (lock_waiters s.waits) (t - 1) sound.in_turn;
       order = sound.order;
       calls = sound.calls;
     }

@@ -9,6 +9,7 @@ use Rattle.p9_word.specs.declared.setup.Setup.{Setup}
 use Rattle.p9_word.specs.declared.setup.ChanSetup.{ChanSetup}
 use Rattle.p9_word.specs.declared.setup.ThreadSetup.{ThreadSetup}
 use Rattle.p9_word.specs.declared.request.Request.{Request}
+use Rattle.p9_word.specs.declared.request.Request.TheVariants.{Thread as ThreadRequest, Chan as ChanRequest, Lock as LockRequest, Io as IoRequest}
 use Rattle.p9_word.specs.declared.trail.Seat.{Seat}
 use Rattle.p9_word.specs.declared.trail.Seat.TheVariants.{Proc, Io as IoSeat}
 use Rattle.p9_word.specs.declared.trail.Event.{Event}
@@ -20,31 +21,35 @@ use Rattle.p9_manual.specs.declared.state.Ioproc.{Ioproc}
 use Rattle.p9_manual.specs.declared.state.Ioproc.TheVariants.{Unmade}
 use Rattle.p9_manual.specs.Places.{runs_in, runs_there}
 use Rattle.p9_manual.specs.State.{State, Outcome, by_id}
-use Rattle.p9_manual.specs.Step.{called, outcome, step, counted, settled, makes_entry}
-use Rattle.p9_manual.specs.History.{state_after, begin_state, after_entry, ids_from, new_thread, new_channel}
+use Rattle.p9_manual.specs.Step.{served, called, outcome, step, counted, settled, makes_entry}
+use Rattle.p9_manual.specs.History.{state_after, begin_state, after_entry, ids_from, new_thread, new_channel, no_holds}
 use Rattle.p9_manual.specs.Standing.{times, place_of, place_in, times_in_line, times_in_waits}
 use Rattle.p9_manual.specs.Sound.{IsSound, IsWithin, IsThreadIn, CallsMatch, call_of, message_at}
-use Rattle.p9_laws.proofs.Groups.{Kind, Plain, OfChans, OfIoprocs, served_kind}
+use Rattle.p9_laws.proofs.Asked.{thread_call_does}
 use Rattle.p9_laws.proofs.Sound.Places.{by_id-suc}
 use Rattle.p9_laws.proofs.Sound.Running.{at_rest, place_runs}
+use Rattle.p9_laws.proofs.Sound.InTurn.{nobody_in_turn}
 use Rattle.p9_laws.proofs.Sound.Order.{nobody_in_order}
 use Rattle.p9_laws.proofs.Sound.Waits.{nobody_rightly}
 use Rattle.p9_laws.proofs.Sound.Outcomes.{IsFine, IsSafe, BeginsOneOf, RunsIn, fine_safe, same_safe, if_safe}
 use Rattle.p9_laws.proofs.Sound.Threads.{asked_fine}
 use Rattle.p9_laws.proofs.Sound.Chans.{chan_call_fine}
+use Rattle.p9_laws.proofs.Sound.Locks.{lock_call_fine}
 use Rattle.p9_laws.proofs.Sound.Ioprocs.{io_call_fine, io_event_safe}
 use Rattle.p9_laws.proofs.Sound.Next.{next_event_safe}
 
-kind_fine : (setup : Setup) (t : ℕ) (s : State) (r : Request) (o : Outcome) → Kind setup t s r o → IsSound setup s → RunsIn s t → IsFine setup s.position o
-kind_fine setup t s _ _ (Plain r o no_alt does) sound runs = asked_fine setup t s o does sound runs
-kind_fine setup t s _ _ (OfChans r) sound runs = chan_call_fine setup t r s sound runs
-kind_fine setup t s _ _ (OfIoprocs r) sound runs = io_call_fine setup t r s sound runs
+served_fine : (setup : Setup) (t : ℕ) (r : Request) (s : State) → IsSound setup s → RunsIn s t → IsFine setup s.position (served setup t r s)
+unfolding served
+served_fine setup t (ThreadRequest r) s sound runs = asked_fine setup t s _ (thread_call_does setup t r s) sound runs
+served_fine setup t (ChanRequest r) s sound runs = chan_call_fine setup t r s sound runs
+served_fine setup t (LockRequest r) s sound runs = lock_call_fine setup t r s sound runs
+served_fine setup t (IoRequest r) s sound runs = io_call_fine setup t r s sound runs
 
 called_safe : (setup : Setup) (p t : ℕ) (r : Request) (s : State) → IsSound setup s → IsSafe setup s (called setup p t r s)
 unfolding called
 called_safe setup p t r s sound =
     if_safe setup s (runs_there p (by_id s.threads t)) _ _
-    (λ e. fine_safe setup s _ (kind_fine setup t s r _ (served_kind setup t r s) sound (place_runs p (by_id s.threads t) e)))
+    (λ e. fine_safe setup s _ (served_fine setup t r s sound (place_runs p (by_id s.threads t) e)))
     (λ _. same_safe setup s Stray refl sound)
 
 outcome_safe : (setup : Setup) (seat : Seat) (event : Event) (s : State) → IsSound setup s → IsSafe setup s (outcome setup seat event s)
@@ -158,6 +163,7 @@ begin_sound setup valid =
       opened = valid.opened.to;
       waits_right = nobody_rightly (map new_channel setup.chans);
       within = begin_within setup.chans;
+      in_turn = nobody_in_turn (map new_thread setup.threads) (no_holds setup) (λ p. let z = begin_runs p setup.threads in omega (arith, z));
       order = nobody_in_order 0;
       calls = begin_calls setup.files;
     }

@@ -1,5 +1,5 @@
 -- The requests on ioprocs, and what ioprocs do, keep a sound state sound.
-use Rattle.std.proofs.Common.{◌≡◌, ◌≤◌, ℕ, ◌+◌, false, not, ◌||◌, eqb, ltb, Option, Some, None, refl, arith, rules, tests}
+use Rattle.std.proofs.Common.{◌≡◌, ◌≤◌, ℕ, ◌+◌, false, not, ◌||◌, ltb, Option, Some, None, refl, arith, rules, tests}
 use Rattle.std.specs.List.{list_any}
 use Rattle.p9_word.specs.declared.setup.Setup.{Setup}
 use Rattle.p9_word.specs.declared.answer.Answer.TheVariants.{Done, Number}
@@ -8,18 +8,22 @@ use Rattle.p9_word.specs.declared.request.IoReq.{IoReq}
 use Rattle.p9_word.specs.declared.request.IoReq.TheVariants.{IoProc, IoRun, CloseIoProc}
 use Rattle.p9_word.specs.declared.io_call.IoCall.{IoCall}
 use Rattle.p9_word.specs.declared.io_call.Effect.{Effect}
+use Rattle.p9_word.specs.declared.request.Request.TheVariants.{Io as IoRequest}
+use Rattle.p9_manual.specs.declared.state.Place.TheVariants.{Waiting}
 use Rattle.p9_manual.specs.declared.state.Ioproc.{Ioproc}
 use Rattle.p9_manual.specs.declared.state.Ioproc.TheVariants.{Unmade, Idle, Posted, Begun, Closed}
 use Rattle.p9_manual.specs.Effects.{fits, message_length}
+use Rattle.p9_manual.specs.LockWaits.{is_holding, lock_waiters}
 use Rattle.p9_manual.specs.Places.{lives}
 use Rattle.p9_manual.specs.State.{State, by_id}
 use Rattle.p9_manual.specs.Ioprocs.{with_ioproc, make, post_call, close_ioproc, io_call, take_call, answered, did_call, io_event}
 use Rattle.p9_manual.specs.Sound.{IsSound, call_of, message_at}
-use Rattle.p9_laws.proofs.Sound.Order.{filtered_order}
+use Rattle.p9_laws.proofs.Sound.InTurn.{aside_in_turn, woken_in_turn}
+use Rattle.p9_laws.proofs.Sound.Order.{without_order}
 use Rattle.p9_laws.proofs.Sound.Stand.{answered_stands, members_placed}
 use Rattle.p9_laws.proofs.Sound.Waits.{calling_rightly, without_rightly}
 use Rattle.p9_laws.proofs.Sound.Calls.{kept_match, posted_match, begun_waits, done_match}
-use Rattle.p9_laws.proofs.Sound.Outcomes.{IsFine, IsSafe, RunsIn, if_fine, if_safe, same_safe, now_fine, bad_fine, waiting_fine, at_position, later_sound}
+use Rattle.p9_laws.proofs.Sound.Outcomes.{IsFine, IsSafe, RunsIn, if_fine, if_safe, same_safe, now_fine, bad_fine, wait_of, waiting_fine, at_position, later_sound}
 
 -- an ioproc that has the same call for the same thread as before
 with_ioproc_sound : (setup : Setup) (s : State) (k : ℕ) (old io : Ioproc) → by_id s.ioprocs k ≡ Some old → call_of (Some io) ≡ call_of (Some old) → message_at (Some io) ≤ message_at (Some old) → IsSound setup s → IsSound setup (with_ioproc k io s)
@@ -30,6 +34,7 @@ with_ioproc_sound setup s k old io e call short sound =
       opened = sound.opened;
       waits_right = sound.waits_right;
       within = sound.within;
+      in_turn = sound.in_turn;
       order = sound.order;
       calls = kept_match s.ioprocs s.waits k old io e call short sound.calls;
     }
@@ -50,7 +55,8 @@ post_call_fine setup t k call s (Some Idle) e sound runs =
     if_fine setup s.position (ltb 4294967295 (message_length call)) _ _ (λ _. bad_fine setup s sound)
     (λ h. waiting_fine setup (with_ioproc k (Posted t call) s) t _ (record { stand = sound.stand; members = sound.members; opened = sound.opened; within = sound.within; order = sound.order }) runs
     (calling_rightly s.chans s.waits t k s.position call sound.waits_right)
-    (posted_match s.ioprocs s.waits t k s.position call e (le_from_ltb 4294967295 (message_length call) h) sound.calls))
+    (posted_match s.ioprocs s.waits t k s.position call e (le_from_ltb 4294967295 (message_length call) h) sound.calls)
+    (aside_in_turn s.threads s.holds s.waits (wait_of t (IoRequest (IoRun k call)) s) t Waiting refl refl sound.in_turn))
 post_call_fine setup t k call s (Some Unmade) e sound runs = bad_fine setup s sound
 post_call_fine setup t k call s (Some (Posted u other)) e sound runs = bad_fine setup s sound
 post_call_fine setup t k call s (Some (Begun u other)) e sound runs = bad_fine setup s sound
@@ -88,12 +94,13 @@ answered_sound : (setup : Setup) (s : State) (k : ℕ) (o : Option ℕ) (call : 
 answered_sound setup s k None call effect e sound = later_sound setup (with_ioproc k Idle s) (with_ioproc_sound setup s k (Begun None call) Idle e refl (omega arith) sound)
 answered_sound setup s k (Some t) call effect e sound =
     later_sound setup (answered (Some t) effect (with_ioproc k Idle s)) (record {
-      stand = answered_stands s.threads s.line s.waits t _ sound.stand (begun_waits s.threads s.line s.waits s.ioprocs t k call e sound.stand sound.calls).0;
+      stand = answered_stands s.threads s.line s.waits t _ (is_holding t (lock_waiters s.waits)) sound.stand (begun_waits s.threads s.line s.waits s.ioprocs t k call e sound.stand sound.calls).0;
       members = members_placed s.opened setup.programs t _ s.threads sound.members;
       opened = sound.opened;
       waits_right = without_rightly s.chans s.waits t sound.waits_right;
       within = sound.within;
-      order = filtered_order s.position s.waits (λ w. not (eqb w.tid t)) sound.order;
+      in_turn = woken_in_turn s.threads s.holds s.waits t _ sound.in_turn;
+      order = without_order s.position s.waits t sound.order;
       calls = done_match s.threads s.line s.waits s.ioprocs t k call e sound.stand sound.calls;
     })
 

@@ -1,5 +1,5 @@
 -- The turns of procs keep a sound state sound.
-use Rattle.std.proofs.Common.{◌≡◌, ℕ, ◌+◌, true, false, not, eqb, List, Option, Some, None, refl, arith}
+use Rattle.std.proofs.Common.{◌≡◌, ℕ, ◌+◌, Bool, true, false, not, cond, eqb, List, Option, Some, None, refl, arith}
 use Rattle.std.specs.Prelude.{option_map}
 use Rattle.std.specs.List.{list_any}
 use Rattle.p9_word.specs.declared.setup.Setup.{Setup}
@@ -7,14 +7,19 @@ use Rattle.p9_word.specs.declared.trail.Reply.TheVariants.{Stray, Over, Idle}
 use Rattle.p9_manual.specs.declared.state.Place.{Place}
 use Rattle.p9_manual.specs.declared.state.Place.TheVariants.{Running, New, Ready, Waiting, Ended}
 use Rattle.p9_manual.specs.declared.state.Thread.{Thread}
+use Rattle.p9_manual.specs.Held.{is_held}
+use Rattle.p9_manual.specs.LockWaits.{lock_waiters}
 use Rattle.p9_manual.specs.Places.{runs_in, is_of}
 use Rattle.p9_manual.specs.State.{State, by_id, pick, placed}
 use Rattle.p9_manual.specs.Stuck.{is_stuck}
-use Rattle.p9_manual.specs.Next.{next_event, next_of, turn, turn_reply, started, stuck, is_place, is_over}
+use Rattle.p9_manual.specs.Next.{first_ready, next_event, next_of, turn, turn_reply, started, stuck, is_place, is_over}
 use Rattle.p9_manual.specs.Standing.{times, place_in, times_in_line}
 use Rattle.p9_manual.specs.Sound.{IsSound}
 use Rattle.p9_word.specs.Setup.{IsBetween}
-use Rattle.p9_laws.proofs.Sound.Stand.{turn_stands, picked_counts, members_placed, member_at}
+use Rattle.p9_laws.proofs.LockWaiters.{not_held}
+use Rattle.p9_laws.proofs.Sound.Counts.{pick_passes}
+use Rattle.p9_laws.proofs.Sound.InTurn.{started_in_turn}
+use Rattle.p9_laws.proofs.Sound.Stand.{turn_stands, picked_counts, members_placed, member_at, of_proc}
 use Rattle.p9_laws.proofs.Sound.Outcomes.{IsSafe, BeginsOneOf, if_safe, same_safe, later_sound}
 
 turn_begins : (setup : Setup) (t arg program : ℕ) (pl : Place) → IsBetween 1 setup.programs program → BeginsOneOf setup.programs (turn_reply t (program, arg, pl))
@@ -25,9 +30,9 @@ turn_begins setup t arg program Waiting h = tt
 turn_begins setup t arg program Ended h = tt
 
 -- the thread that is picked from the line runs, and there is an entry
-turn_safe : (setup : Setup) (p t : ℕ) (rest : List ℕ) (s : State) (o : Option Thread) → by_id s.threads t ≡ o → 1 + times (λ u. eqb u t) rest ≡ times_in_line (place_in o) → list_any (runs_in p) s.threads ≡ false → pick (λ u. is_of p (by_id s.threads u)) s.line ≡ Some (t, rest) → IsSound setup s → IsSafe setup s (turn t (record s { line = rest }) (option_map started o))
-turn_safe setup p t rest s None at ready none e sound = absurd (omega arith)
-turn_safe setup p t rest s (Some thread) at ready none e sound =
+turn_safe : (setup : Setup) (p t : ℕ) (rest : List ℕ) (s : State) (o : Option Thread) → by_id s.threads t ≡ o → 1 + times (λ u. eqb u t) rest ≡ times_in_line (place_in o) → list_any (runs_in p) s.threads ≡ false → pick (λ u. is_of p (by_id s.threads u)) s.line ≡ Some (t, rest) → is_held p s ≡ false → IsSound setup s → IsSafe setup s (turn t (record s { line = rest }) (option_map started o))
+turn_safe setup p t rest s None at ready none e free sound = absurd (omega arith)
+turn_safe setup p t rest s (Some thread) at ready none e free sound =
     record {
       sound = later_sound setup (record s { line = rest; threads = placed t Running s.threads }) (record {
         stand = turn_stands s.threads s.line s.waits p t rest sound.stand none e;
@@ -35,6 +40,8 @@ turn_safe setup p t rest s (Some thread) at ready none e sound =
         opened = sound.opened;
         waits_right = sound.waits_right;
         within = sound.within;
+        in_turn = started_in_turn s.threads s.holds (lock_waiters s.waits) p t thread none (not_held p s free) at
+            (of_proc p (by_id s.threads t) thread at (pick_passes (λ u. is_of p (by_id s.threads u)) s.line t rest e)) sound.in_turn;
         order = sound.order;
         calls = sound.calls;
       });
@@ -44,14 +51,20 @@ turn_safe setup p t rest s (Some thread) at ready none e sound =
 stuck_safe : (setup : Setup) (s : State) → IsSound setup s → IsSafe setup s (stuck s)
 stuck_safe setup s sound =
     record {
-      sound = later_sound setup (record s { over = true }) (record { stand = sound.stand; members = sound.members; opened = sound.opened; waits_right = sound.waits_right; within = sound.within; order = sound.order; calls = sound.calls });
+      sound = later_sound setup (record s { over = true }) (record { stand = sound.stand; members = sound.members; opened = sound.opened; waits_right = sound.waits_right; within = sound.within; in_turn = sound.in_turn; order = sound.order; calls = sound.calls });
       begins = tt;
     }
 
-next_of_safe : (setup : Setup) (p : ℕ) (s : State) (o : Option (ℕ × List ℕ)) → pick (λ u. is_of p (by_id s.threads u)) s.line ≡ o → list_any (runs_in p) s.threads ≡ false → IsSound setup s → IsSafe setup s (next_of s o)
+-- who is found ready is the first of its proc in the line, and the proc isn't held
+found_ready : (p : ℕ) (s : State) (b : Bool) (o : Option (ℕ × List ℕ)) (found : ℕ × List ℕ) → is_held p s ≡ b → cond b None o ≡ Some found → (is_held p s ≡ false) × (o ≡ Some found)
+found_ready p s true o found h e = cc
+found_ready p s false o found h e = (h, e)
+
+next_of_safe : (setup : Setup) (p : ℕ) (s : State) (o : Option (ℕ × List ℕ)) → first_ready p s ≡ o → list_any (runs_in p) s.threads ≡ false → IsSound setup s → IsSafe setup s (next_of s o)
 next_of_safe setup p s None e none sound = if_safe setup s (is_stuck s) _ _ (λ _. stuck_safe setup s sound) (λ _. same_safe setup s Idle refl sound)
 next_of_safe setup p s (Some found) e none sound =
-    turn_safe setup p found.0 found.1 s _ refl (picked_counts s.threads s.line s.waits (λ u. is_of p (by_id s.threads u)) found.0 found.1 sound.stand e) none e sound
+    let ready = found_ready p s (is_held p s) (pick (λ u. is_of p (by_id s.threads u)) s.line) found refl e in
+    turn_safe setup p found.0 found.1 s _ refl (picked_counts s.threads s.line s.waits (λ u. is_of p (by_id s.threads u)) found.0 found.1 sound.stand ready.1) none ready.1 ready.0 sound
 
 pub next_event_safe : (setup : Setup) (p : ℕ) (s : State) → IsSound setup s → IsSafe setup s (next_event setup p s)
 unfolding next_event

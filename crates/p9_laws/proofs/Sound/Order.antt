@@ -1,11 +1,15 @@
 -- The positions of the calls in which threads wait, where one more waits or some are taken out.
-use Rattle.std.proofs.Common.{◌≡◌, ℕ, ◌+◌, ◌≤◌, Bool, true, false, cond, List, [], ◌∷◌, ◌++◌, map, refl, ap, arith}
+use Rattle.std.proofs.Common.{◌≡◌, ℕ, ◌+◌, ◌≤◌, Bool, true, false, not, cond, eqb, List, [], ◌∷◌, ◌++◌, map, Option, Some, None, refl, ap, sym, subst, arith, append-nil}
 use Rattle.std.specs.Prelude.{All}
 use Rattle.std.specs.List.{filter, AllByRecursion}
 use Rattle.std.proofs.lemmas.List.Elements.{All-from_recursion, recursion_from_All, All-nil, All-push, All-same, All-filter, All-weaker}
+use Rattle.p9_manual.specs.declared.state.Party.{Party}
 use Rattle.p9_manual.specs.declared.state.Waiter.{Waiter}
+use Rattle.p9_manual.specs.Offers.{Alternation, alternation_of, party, party_with, party_of, parties}
 use Rattle.p9_manual.specs.Standing.{IsRising}
 use Rattle.p9_manual.specs.Sound.{InOrder}
+use Rattle.p9_manual.specs.State.{waits_without}
+use Rattle.p9_laws.proofs.Sound.Parties.{is_tid, parties_push, parties_without}
 
 every_step : {A B : Type 0} (P : B → Type 0) (f : A → B) (b : Bool) (x : A) (xs : List A) → P (f x) → AllByRecursion P (map f xs) → AllByRecursion P (map f (cond b (x ∷ xs) xs))
 every_step P f true x xs here rest = (here, rest)
@@ -40,20 +44,47 @@ rising_pushed f y (x ∷ xs) below h =
 pub nobody_in_order : (position : ℕ) → InOrder position []
 nobody_in_order position = record { before = All-nil (λ (w : Waiter). w.at + 1 ≤ position); rising = tt }
 
--- without those that pass a test
-pub filtered_order : (position : ℕ) (waits : List Waiter) (p : Waiter → Bool) → InOrder position waits → InOrder position (filter p waits)
-filtered_order position waits p order =
-    record { before = All-filter p (λ (w : Waiter). w.at + 1 ≤ position) waits order.before; rising = rising_filtered (λ (w : Waiter). w.at) p waits order.rising }
+-- the positions of the parties
+abbrev pub party_at : Party → ℕ
+party_at p = p.at
+
+-- without the waits of a thread
+pub without_order : (position : ℕ) (waits : List Waiter) (t : ℕ) → InOrder position waits → InOrder position (waits_without t waits)
+without_order position waits t order =
+    record {
+      before = All-filter (λ w. not (eqb w.tid t)) (λ (w : Waiter). w.at + 1 ≤ position) waits order.before;
+      rising = subst (λ (ps : List Party). IsRising (map party_at ps)) (sym (parties_without t waits)) (rising_filtered party_at (λ p. not (is_tid t p)) (parties waits) order.rising);
+    }
 
 -- after one more entry
 pub later_order : (position : ℕ) (waits : List Waiter) → InOrder position waits → InOrder (position + 1) waits
 later_order position waits order =
     record { before = All-weaker (λ (w : Waiter). w.at + 1 ≤ position) (λ (w : Waiter). w.at + 1 ≤ position + 1) (λ w h. omega arith) waits order.before; rising = order.rising }
 
+pub every_append : {A : Type 0} (P : A → Type 0) → (xs ys : List A) → AllByRecursion P xs → AllByRecursion P ys → AllByRecursion P (xs ++ ys)
+every_append P [] ys h k = k
+every_append P (x ∷ xs) ys h k = (h.0, every_append P xs ys h.1 k)
+
+party_before : (n t at : ℕ) (o : Option Alternation) → at + 1 ≤ n → AllByRecursion (λ (p : Party). p.at + 1 ≤ n) (party_with t at o)
+party_before n t at None h = tt
+party_before n t at (Some a) h = (h, tt)
+
+-- the alts among the waits were made before, as all were
+pub parties_before : (n : ℕ) → (waits : List Waiter) → AllByRecursion (λ (w : Waiter). w.at + 1 ≤ n) waits → AllByRecursion (λ (p : Party). p.at + 1 ≤ n) (parties waits)
+parties_before n [] h = tt
+parties_before n (w ∷ ws) h =
+    every_append (λ (p : Party). p.at + 1 ≤ n) (party_of w) (parties ws) (party_before n w.tid w.at (alternation_of w.request) h.0) (parties_before n ws h.1)
+
+rising_more : (t at : ℕ) (ps : List Party) (o : Option Alternation) → AllByRecursion (λ (p : Party). p.at + 1 ≤ at) ps → IsRising (map party_at ps) → IsRising (map party_at (ps ++ party_with t at o))
+rising_more t at ps None below h = subst (λ (xs : List Party). IsRising (map party_at xs)) (sym (append-nil ps)) h
+rising_more t at ps (Some a) below h = rising_pushed party_at (party t at a) ps below h
+
 -- with the wait of the call that makes this entry
 pub pushed_order : (waits : List Waiter) (w : Waiter) → InOrder w.at waits → InOrder (w.at + 1) (waits ++ w ∷ [])
 pushed_order waits w order =
     record {
       before = All-push (λ (x : Waiter). x.at + 1 ≤ w.at + 1) waits w (later_order w.at waits order).before (omega arith);
-      rising = rising_pushed (λ (x : Waiter). x.at) w waits (recursion_from_All (λ (x : Waiter). x.at + 1 ≤ w.at) waits order.before) order.rising;
+      rising = subst (λ (ps : List Party). IsRising (map party_at ps)) (sym (parties_push waits w))
+          (rising_more w.tid w.at (parties waits) (alternation_of w.request)
+          (parties_before w.at waits (recursion_from_All (λ (x : Waiter). x.at + 1 ≤ w.at) waits order.before)) order.rising);
     }

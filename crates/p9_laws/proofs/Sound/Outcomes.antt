@@ -9,14 +9,17 @@ use Rattle.p9_word.specs.declared.trail.Reply.TheVariants.{Begin}
 use Rattle.p9_word.specs.Setup.{IsBetween}
 use Rattle.p9_manual.specs.declared.state.Place.TheVariants.{Running, Ready, Waiting}
 use Rattle.p9_manual.specs.declared.state.Waiter.{Waiter}
-use Rattle.p9_manual.specs.State.{Move, State, Outcome, readied, same, now, bad, done, waiting}
+use Rattle.p9_manual.specs.LockWaits.{lock_waiters}
+use Rattle.p9_manual.specs.SoundLocks.{WaitInTurn}
+use Rattle.p9_manual.specs.State.{Move, State, Outcome, placed, readied, same, now, bad, done, waiting}
 use Rattle.p9_manual.specs.Step.{makes_entry}
 use Rattle.p9_manual.specs.Standing.{StandOnce, place_of}
 use Rattle.p9_manual.specs.Sound.{IsSound, IsWithin, InOrder, WaitRightly, CallsMatch, IsThreadIn}
+use Rattle.p9_laws.proofs.Sound.InTurn.{placed_in_turn}
 use Rattle.p9_laws.proofs.Sound.Order.{later_order, pushed_order}
 use Rattle.p9_laws.proofs.Sound.Stand.{readied_stands, waiting_stands, members_placed}
 
--- a sound state, but for what it says of channels and ioprocs with their waits
+-- a sound state, but for what it says of channels, locks and ioprocs with their waits
 pub record IsSoundSoFar (setup : Setup) (s : State) : Type 0 where
   pub stand : StandOnce s.threads s.line s.waits
   pub members : All (IsThreadIn s.opened setup.programs) s.threads
@@ -60,6 +63,7 @@ later_sound setup s sound =
       opened = sound.opened;
       waits_right = sound.waits_right;
       within = sound.within;
+      in_turn = sound.in_turn;
       order = later_order s.position s.waits sound.order;
       calls = sound.calls;
     }
@@ -101,6 +105,7 @@ readied_sound setup s t a sound runs =
       opened = sound.opened;
       waits_right = sound.waits_right;
       within = sound.within;
+      in_turn = placed_in_turn s.threads s.holds (lock_waiters s.waits) t (Ready a) refl sound.in_turn;
       order = sound.order;
       calls = sound.calls;
     }
@@ -113,8 +118,8 @@ abbrev pub wait_of : ℕ → Request → State → Waiter
 wait_of t r s = record { tid = t; request = r; at = s.position }
 
 -- the caller waits, where its wait may stand behind the others
-pub waiting_fine : (setup : Setup) (s : State) (t : ℕ) (r : Request) → IsSoundSoFar setup s → RunsIn s t → WaitRightly s.chans (s.waits ++ wait_of t r s ∷ []) → CallsMatch s.ioprocs (s.waits ++ wait_of t r s ∷ []) → IsFine setup s.position (waiting t r s)
-waiting_fine setup s t r sound runs right match' =
+pub waiting_fine : (setup : Setup) (s : State) (t : ℕ) (r : Request) → IsSoundSoFar setup s → RunsIn s t → WaitRightly s.chans (s.waits ++ wait_of t r s ∷ []) → CallsMatch s.ioprocs (s.waits ++ wait_of t r s ∷ []) → WaitInTurn (placed t Waiting s.threads) s.holds (lock_waiters (s.waits ++ wait_of t r s ∷ [])) → IsFine setup s.position (waiting t r s)
+waiting_fine setup s t r sound runs right match' turn =
     record {
       sound = record {
         stand = waiting_stands s.threads s.line s.waits (wait_of t r s) sound.stand runs;
@@ -122,6 +127,7 @@ waiting_fine setup s t r sound runs right match' =
         opened = sound.opened;
         waits_right = right;
         within = sound.within;
+        in_turn = turn;
         order = pushed_order s.waits (wait_of t r s) sound.order;
         calls = match';
       };

@@ -9,6 +9,7 @@ use Rattle.p9_manual.specs.declared.state.Place.{Place}
 use Rattle.p9_manual.specs.declared.state.Place.TheVariants.{Running, New, Ready, Waiting, Ended}
 use Rattle.p9_manual.specs.declared.state.Thread.{Thread}
 use Rattle.p9_manual.specs.declared.state.Waiter.{Waiter}
+use Rattle.p9_manual.specs.LockWaits.{lined}
 use Rattle.p9_manual.specs.Places.{runs_in, is_of, is_running}
 use Rattle.p9_manual.specs.State.{by_id, pick, placed, at_place, waits_without}
 use Rattle.p9_manual.specs.Standing.{StandOnce, times, place_of, times_in_line, times_in_waits}
@@ -85,14 +86,19 @@ ended_stands threads line waits t stand runs =
     rw (line_without threads line waits t stand runs, waits_without_running threads line waits t stand runs)
     (moved threads line line waits waits t Ended stand (made_running threads t runs) (at_rest threads line waits t Ended stand refl) (λ u ne. refl) (λ u ne. refl) (stand.in_line t ∙ ap times_in_line runs) (stand.in_waits t ∙ ap times_in_waits runs))
 
+-- one more in the line, first or last
+pub times_lined : (q : ℕ → Bool) (held : Bool) (t : ℕ) (line : List ℕ) → times q (lined held t line) ≡ times q line + cond (q t) 1 0
+times_lined q true t line = omega arith
+times_lined q false t line = times-push q (q t) line t refl
+
 -- t, whose waits are taken out, is ready
-pub woken_stands : (threads : List Thread) (line : List ℕ) (waits others : List Waiter) (t : ℕ) (a : Answer) → StandOnce threads line waits → place_of threads t ≡ Waiting → times (λ w. eqb w.tid t) others ≡ 0 → ((u : ℕ) → u ≢ t → times (λ w. eqb w.tid u) others ≡ times (λ w. eqb w.tid u) waits) → StandOnce (placed t (Ready a) threads) (line ++ t ∷ []) others
-woken_stands threads line waits others t a stand here gone rest =
+pub woken_stands : (threads : List Thread) (line : List ℕ) (waits others : List Waiter) (t : ℕ) (a : Answer) (held : Bool) → StandOnce threads line waits → place_of threads t ≡ Waiting → times (λ w. eqb w.tid t) others ≡ 0 → ((u : ℕ) → u ≢ t → times (λ w. eqb w.tid u) others ≡ times (λ w. eqb w.tid u) waits) → StandOnce (placed t (Ready a) threads) (lined held t line) others
+woken_stands threads line waits others t a held stand here gone rest =
     let none = stand.in_line t ∙ ap times_in_line here in
-    moved threads line (line ++ t ∷ []) waits others t (Ready a) stand (made_waiting threads t here) (at_rest threads line waits t (Ready a) stand refl)
-    (λ u ne. rw (times-push (λ x. eqb x u) false line t (eqb_other t u ne)) (omega arith))
+    moved threads line (lined held t line) waits others t (Ready a) stand (made_waiting threads t here) (at_rest threads line waits t (Ready a) stand refl)
+    (λ u ne. rw (times_lined (λ x. eqb x u) held t line, eqb_other t u ne) (omega arith))
     rest
-    (rw (times-push (λ x. eqb x t) true line t (eqb_same t), none) refl)
+    (rw (times_lined (λ x. eqb x t) held t line, eqb_same t, none) refl)
     gone
 
 -- a thread that waits, by its only wait
@@ -107,9 +113,9 @@ waits_once threads line waits t stand some = by_place (place_of threads t) (time
     by_place Ended n h e = absurd (omega arith)
 
 -- t, which waits, is ready, and all its waits are taken out
-pub answered_stands : (threads : List Thread) (line : List ℕ) (waits : List Waiter) (t : ℕ) (a : Answer) → StandOnce threads line waits → place_of threads t ≡ Waiting → StandOnce (placed t (Ready a) threads) (line ++ t ∷ []) (waits_without t waits)
-answered_stands threads line waits t a stand here =
-    woken_stands threads line waits (waits_without t waits) t a stand here (cleared (λ w. eqb w.tid t) waits)
+pub answered_stands : (threads : List Thread) (line : List ℕ) (waits : List Waiter) (t : ℕ) (a : Answer) (held : Bool) → StandOnce threads line waits → place_of threads t ≡ Waiting → StandOnce (placed t (Ready a) threads) (lined held t line) (waits_without t waits)
+answered_stands threads line waits t a held stand here =
+    woken_stands threads line waits (waits_without t waits) t a held stand here (cleared (λ w. eqb w.tid t) waits)
     (λ u ne. all_kept (λ w. eqb w.tid u) (λ w. eqb w.tid t) (λ w e. let f = eqb_equal w.tid t e in rw (ap (λ x. eqb x u) f) (eqb_other t u ne)) waits)
 
 -- a thread that runs runs on when another one, which waits, is woken
@@ -144,13 +150,9 @@ ones_started threads line waits p t thread stand none at of r = elim (cases_eq r
     differs : (a b c : ℕ) → eqb a b ≡ true → c ≢ b → eqb a c ≡ false
     differs a b c h ne = search (rules, tests)
 
-of_proc : (p : ℕ) (o : Option Thread) (thread : Thread) → o ≡ Some thread → is_of p o ≡ true → eqb thread.proc_no p ≡ true
+-- a thread that is there is in the proc that it is one of
+pub of_proc : (p : ℕ) (o : Option Thread) (thread : Thread) → o ≡ Some thread → is_of p o ≡ true → eqb thread.proc_no p ≡ true
 of_proc p o thread e h = rw e at h
-
--- the thread that is picked from the line is there
-pub picked_made : (threads : List Thread) (line : List ℕ) (waits : List Waiter) (p : ℕ → Bool) (t : ℕ) (rest : List ℕ) → StandOnce threads line waits → pick p line ≡ Some (t, rest) → IsMade t threads
-picked_made threads line waits p t rest stand e =
-    made_from_place threads t (line_place (place_of threads t) (times (λ u. eqb u t) rest) (picked_counts threads line waits p t rest stand e)).0
 
 -- the first ready thread of proc p, where none runs, runs
 pub turn_stands : (threads : List Thread) (line : List ℕ) (waits : List Waiter) (p t : ℕ) (rest : List ℕ) → StandOnce threads line waits → list_any (runs_in p) threads ≡ false → pick (λ u. is_of p (by_id threads u)) line ≡ Some (t, rest) → StandOnce (placed t Running threads) rest waits

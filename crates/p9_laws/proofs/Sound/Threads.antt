@@ -14,8 +14,8 @@ use Rattle.p9_laws.proofs.Sound.Fields.{with_changed_sound}
 pub asked_fine : (setup : Setup) (t : ℕ) (s : State) (o : Outcome) → Does setup t s o → IsSound setup s → RunsIn s t → IsFine setup s.position o
 asked_fine setup t s _ (Answers a) sound runs = now_fine setup s a sound
 asked_fine setup t s _ (ChangesCaller f caller a at leaves grants) sound runs = now_fine setup _ a (with_changed_sound setup f t s leaves sound)
-asked_fine setup t s _ (ChangesAside procs holds a grants) sound runs =
-    now_fine setup _ a (record { stand = sound.stand; members = sound.members; opened = sound.opened; waits_right = sound.waits_right; within = sound.within; order = sound.order; calls = sound.calls })
+asked_fine setup t s _ (ChangesAside procs a grants) sound runs =
+    now_fine setup _ a (record { stand = sound.stand; members = sound.members; opened = sound.opened; waits_right = sound.waits_right; within = sound.within; in_turn = sound.in_turn; order = sound.order; calls = sound.calls })
 asked_fine setup t s _ (MakesThread program arg caller at own) sound runs = made_thread_fine setup t program arg s caller at own sound
 asked_fine setup t s _ (MakesProc program arg caller at own room) sound runs = made_proc_fine setup t program arg s caller own room sound runs
 asked_fine setup t s _ GivesWay sound runs = done_fine setup s t Done sound runs
