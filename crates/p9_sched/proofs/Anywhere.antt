@@ -1,20 +1,23 @@
 -- A test that a lane passes where some thread of its proc passes another one.
-use Rattle.std.proofs.Common.{◌≡◌, ℕ, suc, ◌+◌, ◌-◌, Bool, true, false, List, [], ◌∷◌, Option, Some, None, IfSome, MatchOption, refl, sym, ap, ◌∙◌, arith}
+use Rattle.std.proofs.Common.{◌≡◌, ℕ, suc, ◌+◌, ◌-◌, Bool, true, false, List, [], ◌∷◌, map, Option, Some, None, IfSome, MatchOption, refl, sym, ap, ◌∙◌, arith}
 use Rattle.std.proofs.lemmas.Bool.{eq-eqb, lt-ltb}
 use Rattle.std.proofs.lemmas.Map.Keys.{any_passes_from_place}
-use Rattle.std.specs.Prelude.{◌==◌, ◌&&◌, ◌||◌, cond, is_some, nat_lt, slice_get}
+use Rattle.std.specs.Prelude.{◌==◌, ◌&&◌, ◌||◌, cond, not, is_some, option_map, nat_lt, slice_get}
 use Rattle.std.specs.List.{list_any}
 use Rattle.p9_manual.specs.declared.state.Thread.{Thread}
-use Rattle.p9_manual.specs.Places.{lives, runs, stands_ready, lives_in, runs_in, runs_there}
+use Rattle.p9_manual.specs.Places.{is_ready, lives, runs, lives_in, runs_in, runs_there}
 use Rattle.p9_manual.specs.Standing.{times}
 use Rattle.p9_manual.specs.State.{by_id}
 use Rattle.p9_sched.specs.Kept.{IsLane, IsSound}
 use Rattle.p9_sched.specs.Lined.{Lined, has_living, has_running, has_ready}
+use Rattle.p9_sched.specs.Holding.{held_in, is_held}
+use Rattle.p9_sched.specs.Schedule.{Schedule}
 use Rattle.p9_sched.specs.Stored.{HasId}
-use Rattle.p9_sched.specs.Turns.{is_ready_in}
-use Rattle.p9_sched.proofs.Lists.{by_id_at, id_at, item_at}
+use Rattle.p9_sched.specs.Turns.{can_run, is_ready_in}
+use Rattle.p9_sched.proofs.Lines.{CasesEq, Same, Other, cases_eq, eq_other}
+use Rattle.p9_sched.proofs.Lists.{by_id_at, by_id-map, id_at, item_at}
 use Rattle.p9_sched.proofs.Nexts.{runner_by}
-use Rattle.p9_sched.proofs.Sound.{if_imp, one_of}
+use Rattle.p9_sched.proofs.Sound.{if_at, if_imp, one_of}
 
 -- an item of the list passes the test
 record IsFound {A : Type 0} (f : A → Bool) (xs : List A) : Type 0 where
@@ -102,6 +105,33 @@ pub any_runs : (threads : List Thread) (ls : List Lined) (more : Bool) → IsSou
 any_runs threads ls more s =
     anywhere runs has_running threads ls s.procs (λ p. if_imp (by_id ls p) (IsLane p threads more) (λ l. has_running l ≡ list_any (in_proc runs p) threads) (s.each p) (λ l k. runs_by p threads l.running (runner_by p threads l.running k.running)))
 
-pub any_ready : (threads : List Thread) (ls : List Lined) (more : Bool) → IsSound threads ls more → list_any has_ready ls ≡ list_any stands_ready threads
-any_ready threads ls more s =
-    anywhere stands_ready has_ready threads ls s.procs (λ p. if_imp (by_id ls p) (IsLane p threads more) (λ l. has_ready l ≡ list_any (in_proc stands_ready p) threads) (s.each p) (λ l k. ap (nat_lt 0) k.ready ∙ above_none (is_ready_in p) threads))
+and_assoc : (a b c : Bool) → (a && (b && c)) ≡ ((a && b) && c)
+and_assoc true b c = refl
+and_assoc false b c = refl
+
+or_and : (a b c : Bool) → ((a && c) || (b && c)) ≡ ((a || b) && c)
+or_and true true true = refl
+or_and true true false = refl
+or_and true false true = refl
+or_and true false false = refl
+or_and false b c = refl
+
+any_and : (f g : Thread → Bool) (b : Bool) → ((x : Thread) → g x ≡ (f x && b)) → (xs : List Thread) → list_any g xs ≡ (list_any f xs && b)
+any_and f g b h [] = refl
+any_and f g b h (x ∷ xs) = rw (h x, any_and f g b h xs) (or_and (f x) (list_any f xs) b)
+
+free_at : (v : Schedule) (p n : ℕ) (ready : Bool) → CasesEq n p → (n == p && (ready && not (is_held n v))) ≡ ((n == p && ready) && not (is_held p v))
+free_at v p n ready (Same e) = rw e (and_assoc (p == p) ready (not (is_held p v)))
+free_at v p n ready (Other ne) = rw (eq_other n p ne) refl
+
+ready_lane : (v : Schedule) (p : ℕ) (threads : List Thread) (ls : List Lined) (more : Bool) (l : Lined) → v.holds ≡ map (λ (m : Lined). m.held) ls → by_id ls p ≡ Some l → IsLane p threads more l → has_ready l ≡ list_any (in_proc (can_run v) p) threads
+ready_lane v p threads ls more l e at k =
+    let count = ap (nat_lt 0) k.ready ∙ above_none (is_ready_in p) threads in
+    let held : is_held p v ≡ l.held = ap (λ hs. held_in (by_id hs p)) e ∙ (ap held_in (by_id-map (λ (m : Lined). m.held) ls p) ∙ ap (λ o. held_in (option_map (λ (m : Lined). m.held) o)) at) in
+    let free = any_and (is_ready_in p) (in_proc (can_run v) p) (not (is_held p v)) (λ x. free_at v p x.proc_no (is_ready x.place) (cases_eq x.proc_no p)) threads in
+    ap (λ b. b && not l.held) count ∙ (ap (λ b. list_any (is_ready_in p) threads && not b) (sym held) ∙ sym free)
+
+-- one that is ready in a proc that isn't held
+pub any_ready : (v : Schedule) (threads : List Thread) (ls : List Lined) (more : Bool) → v.holds ≡ map (λ (m : Lined). m.held) ls → IsSound threads ls more → list_any has_ready ls ≡ list_any (can_run v) threads
+any_ready v threads ls more e s =
+    anywhere (can_run v) has_ready threads ls s.procs (λ p. if_at (by_id ls p) (IsLane p threads more) (λ l. has_ready l ≡ list_any (in_proc (can_run v) p) threads) (s.each p) (λ l at k. ready_lane v p threads ls more l e at k))

@@ -4,6 +4,7 @@ use Rattle.p9_manual.specs.declared.state.Place.{Place as Stand}
 use Rattle.p9_manual.specs.declared.state.Place.TheVariants as stand
 use Rattle.p9_manual.specs.declared.state.Thread.{Thread}
 use Rattle.p9_manual.specs.Places.{is_ready, is_ended}
+use Rattle.p9_manual.specs.Standing.{times_in_waits}
 use Rattle.p9_sched.specs.declared.turns.Place.TheVariants as place
 use Rattle.p9_sched.specs.Turns.{place_at, place_of}
 
@@ -49,3 +50,11 @@ alive_by stand.Ended h = absurd (h refl)
 pub alive : (o : Option Thread) → place_of o ≢ place.Ended → IsAlive o
 alive None h = absurd (h refl)
 alive (Some x) h = record { thread = x; there = refl; alive = alive_by x.place h }
+
+-- one that runs stands in no wait
+pub off_waits : (p : Stand) → place_at p ≡ place.Running → times_in_waits p ≡ 0
+off_waits stand.Running e = refl
+off_waits stand.Waiting e = cc
+off_waits stand.New e = cc
+off_waits (stand.Ready a) e = cc
+off_waits stand.Ended e = cc

@@ -12,7 +12,7 @@ use Rattle.p9_manual.specs.Places.{is_running, is_ready, is_ended, lives_in, run
 use Rattle.p9_manual.specs.Standing.{times}
 use Rattle.p9_manual.specs.State.{by_id, changed, at_place, placed}
 use Rattle.p9_sched.specs.Kept.{IsLane, is_at, ready_there}
-use Rattle.p9_sched.specs.Lined.{Lined, left_by, joined, queued, stopped, left, cleared, started}
+use Rattle.p9_sched.specs.Lined.{Lined, left_by, joined, queued, queued_first, stopped, left, cleared, started}
 use Rattle.p9_sched.specs.Schedule.{without}
 use Rattle.p9_sched.specs.Table.{one_if}
 use Rattle.p9_sched.specs.Turns.{is_ready_in}
@@ -129,6 +129,26 @@ queued_lane p threads more l t x a at e off old k =
       ready = omega arith;
       line = λ u. queued_line p threads more l t u x a at e off k (at_or_not t u);
       room = k.room;
+    }
+
+first_line : (p : ℕ) (threads : List Thread) (more : Bool) (l : Lined) (t u : ℕ) (x : Thread) (a : Answer) → by_id threads t ≡ Some x → x.proc_no ≡ p → is_ready x.place ≡ false → IsLane p threads more l → (u ≡ t) ⊎ (u ≢ t) → times (λ v. v == u) (t ∷ l.line) ≡ one_if (ready_there p (by_id (placed t (Ready a) threads) u))
+first_line p threads more l t u x a at e off k d =
+    let last = times-push (λ v. v == u) l.line t in
+    let line = queued_line p threads more l t u x a at e off k d in
+    omega arith
+
+-- t, which ran or waited, stands first in the line
+pub first_lane : (p : ℕ) (threads : List Thread) (more : Bool) (l : Lined) (t : ℕ) (x : Thread) (a : Answer) → by_id threads t ≡ Some x → x.proc_no ≡ p → is_ready x.place ≡ false → is_ended x.place ≡ false → IsLane p threads more l → IsLane p (placed t (Ready a) threads) more (queued_first t l)
+first_lane p threads more l t x a at e off old k =
+    let q = queued_lane p threads more l t x a at e off old k in
+    let n = length_push l.line t in
+    let ready = q.ready in
+    record {
+      living = q.living;
+      running = q.running;
+      ready = omega arith;
+      line = λ u. first_line p threads more l t u x a at e off k (at_or_not t u);
+      room = q.room;
     }
 
 waiting_line : (p : ℕ) (threads : List Thread) (t u : ℕ) (x : Thread) → by_id threads t ≡ Some x → x.proc_no ≡ p → is_ready x.place ≡ false → (u ≡ t) ⊎ (u ≢ t) → ready_there p (by_id (placed t Waiting threads) u) ≡ ready_there p (by_id threads u)

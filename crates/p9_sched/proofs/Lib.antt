@@ -5,10 +5,12 @@ pub mod Seen
 pub mod Counts
 pub mod Keeping
 pub mod Leaving
+pub mod Members
 pub mod Sound
 pub mod Asks
 pub mod Views
 pub mod Nexts
-pub mod Anywhere
 pub mod Lines
+pub mod Anywhere
+pub mod Held
 pub mod Tracks

@@ -7,9 +7,10 @@ use Rattle.p9_word.specs.declared.answer.Answer.{Answer}
 use Rattle.p9_manual.specs.declared.state.Place.{Place as Stand}
 use Rattle.p9_manual.specs.declared.state.Place.TheVariants.{Running, Ready, Waiting, Ended}
 use Rattle.p9_manual.specs.declared.state.Thread.{Thread}
-use Rattle.p9_manual.specs.State.{by_id, changed, at_place, pick, behind}
+use Rattle.p9_manual.specs.State.{by_id, changed, at_place, placed, pick, behind}
 use Rattle.p9_manual.specs.Places.{is_of}
 use Rattle.p9_manual.specs.Standing.{times}
+use Rattle.p9_sched.specs.Holding.{with_front}
 use Rattle.p9_sched.specs.Schedule.{Schedule, IsPlace, line_of, line_in, with_last, without, emptied, readied, waiting, ended, all_ended, begun, proc_of}
 use Rattle.p9_sched.specs.Stands.{AreLines}
 use Rattle.p9_sched.proofs.Lists.{by_id_at, length-changed, by_id-push_new, by_id-push_other}
@@ -135,6 +136,27 @@ parts_last q t s n line a b el same at h = record {
       part_last q p t s n line a b c e el (same p) (at p) (h.part p c e) (cases_eq p q);
 }
 
+-- a thread that comes first in the line of proc q, and in the line of all
+part_first : (q p t : ℕ) (s n : Schedule) (line : List ℕ) → 1 ≤ q → 1 ≤ p → p ≤ length s.lines → n.lines ≡ changed (with_front t) s.lines (q - 1) → filter (λ u. is_of p (by_id n.threads u)) line ≡ filter (λ u. is_of p (by_id s.threads u)) line → is_of p (by_id n.threads t) ≡ (q == p) → line_of p s ≡ filter (λ u. is_of p (by_id s.threads u)) line → CasesEq p q → line_of p n ≡ filter (λ u. is_of p (by_id n.threads u)) (t ∷ line)
+part_first q p t s n line a c d el same at part (Same e) =
+    let here : is_of p (by_id n.threads t) ≡ true = at ∙ (rw e (eq_same q)) in
+    rw (here, same, el, ← e, line_same (with_front t) s.lines p c d) (ap (λ (xs : List ℕ). t ∷ xs) part)
+part_first q p t s n line a c d el same at part (Other e) =
+    let off : is_of p (by_id n.threads t) ≡ false = at ∙ eq_other q p (λ h. e (sym h)) in
+    rw (off, same, el, line_other (with_front t) s.lines q p c a e) part
+
+pub parts_first : (q t : ℕ) (s n : Schedule) (line : List ℕ) → 1 ≤ q → n.lines ≡ changed (with_front t) s.lines (q - 1) → ((p : ℕ) → filter (λ u. is_of p (by_id n.threads u)) line ≡ filter (λ u. is_of p (by_id s.threads u)) line) → ((p : ℕ) → is_of p (by_id n.threads t) ≡ (q == p)) → AreLines s line → AreLines n (t ∷ line)
+parts_first q t s n line a el same at h = record {
+  part = λ p c d.
+      let e : p ≤ length s.lines = rw (el, length-changed) at d in
+      part_first q p t s n line a c e el (same p) (at p) (h.part p c e) (cases_eq p q);
+}
+
+-- whether a thread is one of a proc
+pub is_of_proc : (p : ℕ) (o : Option Thread) → 1 ≤ proc_of o → is_of p o ≡ (proc_of o == p)
+is_of_proc p None one = absurd (omega arith)
+is_of_proc p (Some thread) one = refl
+
 -- the proc of a thread that was made
 pub is_of_made : (p : ℕ) (o : Option Thread) (thread : Thread) → o ≡ Some thread → is_of p o ≡ (thread.proc_no == p)
 is_of_made p o thread e = rw e refl
@@ -148,6 +170,14 @@ parts_readied t a s thread line e c d h =
     parts_last thread.proc_no t s (readied t a s) line c d (rw e refl)
     (λ p. filter_ext _ _ (λ u. is_of_keeps (at_place (Ready a)) (place_keeps (Ready a)) p s.threads (t - 1) u) line)
     (λ p. is_of_keeps (at_place (Ready a)) (place_keeps (Ready a)) p s.threads (t - 1) t ∙ is_of_made p (by_id s.threads t) thread e)
+    h
+
+-- a thread that is ready before all others
+pub parts_front : (t : ℕ) (a : Answer) (s n : Schedule) (line : List ℕ) → n.threads ≡ placed t (Ready a) s.threads → n.lines ≡ changed (with_front t) s.lines (proc_of (by_id s.threads t) - 1) → 1 ≤ proc_of (by_id s.threads t) → AreLines s line → AreLines n (t ∷ line)
+parts_front t a s n line et el one h =
+    parts_first (proc_of (by_id s.threads t)) t s n line one el
+    (λ p. rw et (filter_ext _ _ (λ u. is_of_keeps (at_place (Ready a)) (place_keeps (Ready a)) p s.threads (t - 1) u) line))
+    (λ p. rw et (is_of_keeps (at_place (Ready a)) (place_keeps (Ready a)) p s.threads (t - 1) t ∙ is_of_proc p (by_id s.threads t) one))
     h
 
 -- a thread that has ended

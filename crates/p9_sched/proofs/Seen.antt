@@ -1,5 +1,5 @@
 -- What is seen of a table, whose fields are these.
-use Rattle.std.proofs.Common.{◌≡◌, ◌≢◌, ℕ, ◌+◌, ◌-◌, ◌<◌, List, [], ◌∷◌, ◌++◌, length, get_or, set, Option, None, Some, unwrap_or, nat_eq, refl, sym, ap, ◌∙◌, arith}
+use Rattle.std.proofs.Common.{◌≡◌, ◌≢◌, ℕ, ◌+◌, ◌-◌, ◌<◌, false, List, [], ◌∷◌, ◌++◌, length, get_or, set, Option, None, Some, unwrap_or, nat_eq, refl, sym, ap, ◌∙◌, arith}
 use Rattle.std.specs.Prelude.{option_map}
 use Rattle.indexmap.specs.IndexMap.{get}
 use Rattle.p9_manual.specs.declared.state.Thread.{Thread}
@@ -48,8 +48,8 @@ seen_name s v t e id =
     ap (λ (w : Stored). name_of (by_id w.threads t)) (sym e) ∙ (ap name_of (thread_by_id (groups_in s) (names_in s) t s.rows.items id.from) ∙ name_at (groups_in s) (names_in s) t s.rows.items (t - 1) (omega (arith, id.from, id.to)))
 
 -- a new row makes a new thread
-pub seen_push : (s : Inside) (v : Stored) (h : ℕ → Option ℕ) (p program arg group u : ℕ) → stored s ≡ v → u ≡ length s.rows.items + 1 → ((q : ℕ) → q ≢ u → h q ≡ groups_in s q) → unwrap_or (h u) 0 ≡ group → names_in s u ≡ None → threads_of h (names_in s) 1 (s.rows.items ++ record { proc_no = p; program = program; arg = arg; word = 0; place = New } ∷ []) ≡ v.threads ++ fresh p program arg group ∷ []
+pub seen_push : (s : Inside) (v : Stored) (h : ℕ → Option ℕ) (p program arg group u : ℕ) → stored s ≡ v → u ≡ length s.rows.items + 1 → ((q : ℕ) → q ≢ u → h q ≡ groups_in s q) → unwrap_or (h u) 0 ≡ group → names_in s u ≡ None → threads_of h (names_in s) 1 (s.rows.items ++ record { proc_no = p; program = program; arg = arg; word = 0; marked = false; place = New } ∷ []) ≡ v.threads ++ fresh p program arg group ∷ []
 seen_push s v h p program arg group u e next others has none =
-    let row : Row = record { proc_no = p; program = program; arg = arg; word = 0; place = New } in
+    let row : Row = record { proc_no = p; program = program; arg = arg; word = 0; marked = false; place = New } in
     let made : thread_of h (names_in s) u row ≡ fresh p program arg group = rw (has, none) refl in
     threads_push (groups_in s) h (names_in s) s.rows.items row u next others ∙ (ap (λ x. threads_of (groups_in s) (names_in s) 1 s.rows.items ++ x ∷ []) made ∙ ap (λ (w : Stored). w.threads ++ fresh p program arg group ∷ []) e)

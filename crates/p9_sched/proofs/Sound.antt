@@ -11,7 +11,7 @@ use Rattle.p9_manual.specs.Ends.{at_end}
 use Rattle.p9_manual.specs.Places.{is_running, is_ready, is_ended, lives_in, runs_there}
 use Rattle.p9_manual.specs.State.{by_id, changed, at_place, placed}
 use Rattle.p9_sched.specs.Kept.{IsLane, IsSound, is_at, ready_there}
-use Rattle.p9_sched.specs.Lined.{Lined, bare, no_lane, room_at, HasSpare, RunsOffLine, joined, cleared, worded}
+use Rattle.p9_sched.specs.Lined.{Lined, bare, no_lane, room_at, HasSpare, RunsOffLine, holding, joined, cleared, worded}
 use Rattle.p9_sched.specs.Schedule.{all_rooms}
 use Rattle.p9_sched.specs.Stored.{Stored, HasId}
 use Rattle.p9_sched.specs.Table.{one_if}
@@ -30,6 +30,10 @@ if_imp (Some x) P Q h k = k x h
 if_map_at : {A : Type 0} (o : Option A) (f : A → A) (P Q : A → Type 0) → IfSome o P → ((x : A) → o ≡ Some x → P x → Q (f x)) → IfSome (option_map f o) Q
 if_map_at None f P Q h k = tt
 if_map_at (Some x) f P Q h k = k x refl h
+
+pub if_at : {A : Type 0} (o : Option A) (P Q : A → Type 0) → IfSome o P → ((x : A) → o ≡ Some x → P x → Q x) → IfSome o Q
+if_at None P Q h k = tt
+if_at (Some x) P Q h k = k x refl h
 
 -- what is known of each is known of one
 pub one_of : {A : Type 0} (o : Option A) (P : A → Type 0) (x : A) → o ≡ Some x → IfSome o P → P x
@@ -134,6 +138,24 @@ reworded threads ls more p w one s =
       few = s.few;
       procs = λ u. if_imp (by_id threads u) (λ y. HasId y.proc_no ls) (λ y. HasId y.proc_no (changed (worded w) ls (p - 1))) (s.procs u) (λ y. same_id y.proc_no ls (changed (worded w) ls (p - 1)) (length-changed (worded w) ls (p - 1)));
       each = λ q. worded_lanes threads ls more p q w one s.each (at_or_not p q);
+    }
+
+held_lane : (p : ℕ) (held : Bool) (threads : List Thread) (more : Bool) (l : Lined) → IsLane p threads more l → IsLane p threads more (holding held l)
+held_lane p held threads more l k =
+    record { living = k.living; running = k.running; ready = k.ready; line = k.line; room = k.room }
+
+held_lanes : (threads : List Thread) (ls : List Lined) (more : Bool) (p q : ℕ) (held : Bool) → 1 ≤ p → ((r : ℕ) → IfSome (by_id ls r) (IsLane r threads more)) → (q ≡ p) ⊎ (q ≢ p) → IfSome (by_id (changed (holding held) ls (p - 1)) q) (IsLane q threads more)
+held_lanes threads ls more p q held one k (inl e) =
+    rw (e, by_id-changed_same (holding held) ls p one) (if_map (by_id ls p) (holding held) (IsLane p threads more) (IsLane p threads more) (k p) (held_lane p held threads more))
+held_lanes threads ls more p q held one k (inr ne) = rw (by_id-changed_other (holding held) ls p q one ne) (k q)
+
+-- a proc that is held or released
+pub held_sound : (threads : List Thread) (ls : List Lined) (more : Bool) (p : ℕ) (held : Bool) → 1 ≤ p → IsSound threads ls more → IsSound threads (changed (holding held) ls (p - 1)) more
+held_sound threads ls more p held one s =
+    record {
+      few = s.few;
+      procs = λ u. if_imp (by_id threads u) (λ y. HasId y.proc_no ls) (λ y. HasId y.proc_no (changed (holding held) ls (p - 1))) (s.procs u) (λ y. same_id y.proc_no ls (changed (holding held) ls (p - 1)) (length-changed (holding held) ls (p - 1)));
+      each = λ q. held_lanes threads ls more p q held one s.each (at_or_not p q);
     }
 
 -- the same lane with more room

@@ -1,5 +1,5 @@
 -- What a change of the rows, the groups or the names does to the threads that they stand for.
-use Rattle.std.proofs.Common.{◌≡◌, ◌≢◌, ℕ, zero, suc, ◌+◌, ◌-◌, ◌<◌, ◌≤◌, false, List, [], ◌∷◌, ◌++◌, length, map, get_or, set, Option, Some, refl, ap, ◌∙◌, arith}
+use Rattle.std.proofs.Common.{◌≡◌, ◌≢◌, ℕ, zero, suc, ◌+◌, ◌-◌, ◌<◌, ◌≤◌, List, [], ◌∷◌, ◌++◌, length, map, get_or, set, Option, Some, refl, ap, ◌∙◌, arith}
 use Rattle.std.specs.Prelude.{option_map, slice_get, unwrap_or}
 use Rattle.p9_manual.specs.declared.state.Thread.{Thread}
 use Rattle.p9_manual.specs.Ends.{at_end}
@@ -37,7 +37,7 @@ push_thread g n t u [] x e = let same : u ≡ t = omega arith in rw same refl
 push_thread g n t u (y ∷ xs) x e = ap (λ zs. thread_of g n t y ∷ zs) (push_thread g n (suc t) u xs x (omega arith))
 
 same_group : (g h : ℕ → Option ℕ) (n : ℕ → Option (List ℕ)) (t : ℕ) (x : Row) → h t ≡ g t → thread_of h n t x ≡ thread_of g n t x
-same_group g h n t x e = ap (λ (o : Option ℕ). record { proc_no = x.proc_no; program = x.program; arg = x.arg; group = unwrap_or o 0; name = unwrap_or (n t) []; word = x.word; marked = false; place = x.place }) e
+same_group g h n t x e = ap (λ (o : Option ℕ). record { proc_no = x.proc_no; program = x.program; arg = x.arg; group = unwrap_or o 0; name = unwrap_or (n t) []; word = x.word; marked = x.marked; place = x.place }) e
 
 agree_groups : (g h : ℕ → Option ℕ) (n : ℕ → Option (List ℕ)) (t u : ℕ) (xs : List Row) → ((q : ℕ) → q ≢ u → h q ≡ g q) → u < t → threads_of h n t xs ≡ threads_of g n t xs
 agree_groups g h n t u [] e lt = refl
@@ -70,7 +70,7 @@ pub threads_group : (g h : ℕ → Option ℕ) (n : ℕ → Option (List ℕ)) (
 threads_group g h n u v xs one has others = group_from g h n 1 u v xs (u - 1) has others (omega arith)
 
 same_name : (g : ℕ → Option ℕ) (n m : ℕ → Option (List ℕ)) (t : ℕ) (x : Row) → m t ≡ n t → thread_of g m t x ≡ thread_of g n t x
-same_name g n m t x e = ap (λ (o : Option (List ℕ)). record { proc_no = x.proc_no; program = x.program; arg = x.arg; group = unwrap_or (g t) 0; name = unwrap_or o []; word = x.word; marked = false; place = x.place }) e
+same_name g n m t x e = ap (λ (o : Option (List ℕ)). record { proc_no = x.proc_no; program = x.program; arg = x.arg; group = unwrap_or (g t) 0; name = unwrap_or o []; word = x.word; marked = x.marked; place = x.place }) e
 
 agree_names : (g : ℕ → Option ℕ) (n m : ℕ → Option (List ℕ)) (t u : ℕ) (xs : List Row) → ((q : ℕ) → q ≢ u → m q ≡ n q) → u < t → threads_of g m t xs ≡ threads_of g n t xs
 agree_names g n m t u [] e lt = refl

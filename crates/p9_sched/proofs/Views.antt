@@ -1,5 +1,5 @@
 -- What callers see after a move.
-use Rattle.std.proofs.Common.{◌≡◌, ◌≢◌, ◌⊎◌, ℕ, zero, suc, ◌+◌, ◌-◌, false, List, [], ◌∷◌, ◌++◌, length, map, replicate, arith, Option, Some, None, Result, Ok, Err, OnOk, OnErr, true, refl, sym, ap, subst, ◌∙◌}
+use Rattle.std.proofs.Common.{◌≡◌, ◌≢◌, ◌⊎◌, inl, inr, ℕ, zero, suc, ◌+◌, ◌-◌, Bool, false, List, [], ◌∷◌, ◌++◌, length, map, replicate, arith, Option, Some, None, Result, Ok, Err, OnOk, OnErr, true, refl, sym, ap, subst, ◌∙◌}
 use Rattle.std.proofs.lemmas.List.{length-map}
 use Rattle.std.specs.Prelude.{option_map, slice_get}
 use Rattle.p9_word.specs.declared.answer.Answer.{Answer}
@@ -16,7 +16,8 @@ use Rattle.p9_sched.specs.declared.turns.Ready.{Ready as Turn}
 use Rattle.p9_sched.specs.declared.turns.Ready.TheVariants.{New as First, Old}
 use Rattle.p9_sched.specs.declared.sched.Sched.TheInside.{Inside}
 use Rattle.p9_sched.specs.Kept.{IsSound, shown}
-use Rattle.p9_sched.specs.Lined.{Lined, line_at, bare, no_lane, joined, cleared, worded}
+use Rattle.p9_sched.specs.Lined.{Lined, line_at, bare, no_lane, holding, joined, cleared, worded}
+use Rattle.p9_sched.specs.Holding.{held_in, is_held, with_held}
 use Rattle.p9_sched.specs.Schedule.{Schedule, Rooms, no_rooms, all_rooms, begun, begin_schedule, IsMade, IsPlace, proc_of, line_in, line_of, with_last, with_new, emptied, all_ended, with_proc_word}
 use Rattle.p9_sched.specs.Stored.{Stored, HasId, row_of}
 use Rattle.p9_sched.specs.Turns.{place_of, answer_at, answer_of, first_answer, answer_next, ready_at, ready_of, turn_of, next_in}
@@ -51,18 +52,19 @@ after s f g p =
       threads = f s.table.threads;
       lines = map (λ l. l.line) (changed g s.lanes (p - 1));
       words = map (λ l. l.word) (changed g s.lanes (p - 1));
+      holds = map (λ l. l.held) (changed g s.lanes (p - 1));
       opened = s.opened;
       rooms = s.table.rooms;
     }
 
-pub moved_view : (s : Inside) (v : Schedule) (f : List Thread → List Thread) (g : Lined → Lined) (h : List ℕ → List ℕ) (p : ℕ) → shown s ≡ v → ((l : Lined) → (g l).line ≡ h l.line) → ((l : Lined) → (g l).word ≡ l.word) → after s f g p ≡ record v { threads = f v.threads; lines = changed h v.lines (p - 1) }
-moved_view s v f g h p e line word =
-    subst (λ (w : Schedule). after s f g p ≡ record w { threads = f w.threads; lines = changed h w.lines (p - 1) }) e (rw (map-changed (λ (l : Lined). l.line) g h line s.lanes (p - 1), map-changed_same (λ (l : Lined). l.word) g word s.lanes (p - 1)) refl)
+pub moved_view : (s : Inside) (v : Schedule) (f : List Thread → List Thread) (g : Lined → Lined) (h : List ℕ → List ℕ) (p : ℕ) → shown s ≡ v → ((l : Lined) → (g l).line ≡ h l.line) → ((l : Lined) → (g l).word ≡ l.word) → ((l : Lined) → (g l).held ≡ l.held) → after s f g p ≡ record v { threads = f v.threads; lines = changed h v.lines (p - 1) }
+moved_view s v f g h p e line word held =
+    subst (λ (w : Schedule). after s f g p ≡ record w { threads = f w.threads; lines = changed h w.lines (p - 1) }) e (rw (map-changed (λ (l : Lined). l.line) g h line s.lanes (p - 1), map-changed_same (λ (l : Lined). l.word) g word s.lanes (p - 1), map-changed_same (λ (l : Lined). l.held) g held s.lanes (p - 1)) refl)
 
 -- a move that leaves the lines as they are
-pub stayed_view : (s : Inside) (v : Schedule) (f : List Thread → List Thread) (g : Lined → Lined) (p : ℕ) → shown s ≡ v → ((l : Lined) → (g l).line ≡ l.line) → ((l : Lined) → (g l).word ≡ l.word) → after s f g p ≡ record v { threads = f v.threads }
-stayed_view s v f g p e line word =
-    subst (λ (w : Schedule). after s f g p ≡ record w { threads = f w.threads }) e (rw (map-changed_same (λ (l : Lined). l.line) g line s.lanes (p - 1), map-changed_same (λ (l : Lined). l.word) g word s.lanes (p - 1)) refl)
+pub stayed_view : (s : Inside) (v : Schedule) (f : List Thread → List Thread) (g : Lined → Lined) (p : ℕ) → shown s ≡ v → ((l : Lined) → (g l).line ≡ l.line) → ((l : Lined) → (g l).word ≡ l.word) → ((l : Lined) → (g l).held ≡ l.held) → after s f g p ≡ record v { threads = f v.threads }
+stayed_view s v f g p e line word held =
+    subst (λ (w : Schedule). after s f g p ≡ record w { threads = f w.threads }) e (rw (map-changed_same (λ (l : Lined). l.line) g line s.lanes (p - 1), map-changed_same (λ (l : Lined). l.word) g word s.lanes (p - 1), map-changed_same (λ (l : Lined). l.held) g held s.lanes (p - 1)) refl)
 
 line_by : (o : Option Lined) → line_in (option_map (λ l. l.line) o) ≡ line_at o
 line_by None = refl
@@ -102,7 +104,22 @@ seen_place s v t x e at k =
 
 pub worded_view : (s : Inside) (v : Schedule) (p w : ℕ) → shown s ≡ v → after s (λ ts. ts) (worded w) p ≡ with_proc_word p w v
 worded_view s v p w e =
-    subst (λ (u : Schedule). after s (λ ts. ts) (worded w) p ≡ with_proc_word p w u) e (rw (map-changed_same (λ (l : Lined). l.line) (worded w) (λ l. refl) s.lanes (p - 1), map-changed (λ (l : Lined). l.word) (worded w) (λ _. w) (λ l. refl) s.lanes (p - 1)) refl)
+    subst (λ (u : Schedule). after s (λ ts. ts) (worded w) p ≡ with_proc_word p w u) e (rw (map-changed_same (λ (l : Lined). l.line) (worded w) (λ l. refl) s.lanes (p - 1), map-changed (λ (l : Lined). l.word) (worded w) (λ _. w) (λ l. refl) s.lanes (p - 1), map-changed_same (λ (l : Lined). l.held) (worded w) (λ l. refl) s.lanes (p - 1)) refl)
+
+-- a proc that is held or released
+pub holding_view : (s : Inside) (v : Schedule) (p : ℕ) (held : Bool) → shown s ≡ v → after s (λ ts. ts) (holding held) p ≡ with_held p held v
+holding_view s v p held e =
+    subst (λ (u : Schedule). after s (λ ts. ts) (holding held) p ≡ with_held p held u) e (rw (map-changed_same (λ (l : Lined). l.line) (holding held) (λ l. refl) s.lanes (p - 1), map-changed_same (λ (l : Lined). l.word) (holding held) (λ l. refl) s.lanes (p - 1), map-changed (λ (l : Lined). l.held) (holding held) (λ _. held) (λ l. refl) s.lanes (p - 1)) refl)
+
+-- whether a proc is held, as its lane has it
+pub seen_held : (s : Inside) (v : Schedule) (p : ℕ) (b : Bool) → shown s ≡ v → option_map (λ (l : Lined). l.held) (by_id s.lanes p) ≡ Some b → is_held p v ≡ b
+seen_held s v p b e at =
+    ap (λ (w : Schedule). is_held p w) (sym e) ∙ (ap held_in (by_id-map (λ (l : Lined). l.held) s.lanes p) ∙ ap held_in at)
+
+-- each proc place is held or not
+pub seen_holds : (s : Inside) (v : Schedule) → shown s ≡ v → length v.holds ≡ length v.lines
+seen_holds s v e =
+    subst (λ (w : Schedule). length w.holds ≡ length w.lines) e (length-map s.lanes (λ (l : Lined). l.held) ∙ sym (length-map s.lanes (λ (l : Lined). l.line)))
 
 abbrev ended_shown : Inside → Schedule
 ended_shown s =
@@ -110,6 +127,7 @@ ended_shown s =
       threads = map at_end s.table.threads;
       lines = map (λ l. l.line) (map cleared s.lanes);
       words = map (λ l. l.word) (map cleared s.lanes);
+      holds = map (λ l. l.held) (map cleared s.lanes);
       opened = s.opened;
       rooms = s.table.rooms;
     }
@@ -118,7 +136,8 @@ pub ended_view : (s : Inside) (v : Schedule) → shown s ≡ v → ended_shown s
 ended_view s v e =
     let lines : map (λ (l : Lined). l.line) (map cleared s.lanes) ≡ map emptied (map (λ (l : Lined). l.line) s.lanes) = map-map (λ (l : Lined). l.line) cleared s.lanes ∙ sym (map-map emptied (λ (l : Lined). l.line) s.lanes) in
     let words : map (λ (l : Lined). l.word) (map cleared s.lanes) ≡ map (λ (l : Lined). l.word) s.lanes = map-map (λ (l : Lined). l.word) cleared s.lanes in
-    subst (λ (u : Schedule). ended_shown s ≡ all_ended u) e (rw (lines, words) refl)
+    let holds : map (λ (l : Lined). l.held) (map cleared s.lanes) ≡ map (λ _. false) (map (λ (l : Lined). l.held) s.lanes) = map-map (λ (l : Lined). l.held) cleared s.lanes ∙ sym (map-map (λ (_ : Bool). false) (λ (l : Lined). l.held) s.lanes) in
+    subst (λ (u : Schedule). ended_shown s ≡ all_ended u) e (rw (lines, words, holds) refl)
 
 abbrev made_shown : Inside → ℕ → ℕ → ℕ → ℕ → ℕ → Schedule
 made_shown s p program arg group t =
@@ -126,13 +145,14 @@ made_shown s p program arg group t =
       threads = s.table.threads ++ fresh p program arg group ∷ [];
       lines = map (λ l. l.line) (changed (joined t) s.lanes (p - 1));
       words = map (λ l. l.word) (changed (joined t) s.lanes (p - 1));
+      holds = map (λ l. l.held) (changed (joined t) s.lanes (p - 1));
       opened = s.opened;
       rooms = record s.table.rooms { thread = false };
     }
 
 pub made_view : (s : Inside) (v : Schedule) (p program arg group t : ℕ) → shown s ≡ v → t ≡ length s.table.threads + 1 → made_shown s p program arg group t ≡ with_new p program arg group v
 made_view s v p program arg group t e next =
-    subst (λ (u : Schedule). made_shown s p program arg group t ≡ with_new p program arg group u) e (rw (next, map-changed (λ (l : Lined). l.line) (joined (length s.table.threads + 1)) (with_last (length s.table.threads + 1)) (λ l. refl) s.lanes (p - 1), map-changed_same (λ (l : Lined). l.word) (joined (length s.table.threads + 1)) (λ l. refl) s.lanes (p - 1)) refl)
+    subst (λ (u : Schedule). made_shown s p program arg group t ≡ with_new p program arg group u) e (rw (next, map-changed (λ (l : Lined). l.line) (joined (length s.table.threads + 1)) (with_last (length s.table.threads + 1)) (λ l. refl) s.lanes (p - 1), map-changed_same (λ (l : Lined). l.word) (joined (length s.table.threads + 1)) (λ l. refl) s.lanes (p - 1), map-changed_same (λ (l : Lined). l.held) (joined (length s.table.threads + 1)) (λ l. refl) s.lanes (p - 1)) refl)
 
 bare_lines : (ls ms : List Lined) → map bare ms ≡ map bare ls → map (λ (l : Lined). l.line) ms ≡ map (λ (l : Lined). l.line) ls
 bare_lines ls ms e =
@@ -142,12 +162,17 @@ bare_words : (ls ms : List Lined) → map bare ms ≡ map bare ls → map (λ (l
 bare_words ls ms e =
     sym (map-map (λ (l : Lined). l.word) bare ms) ∙ (ap (map (λ (l : Lined). l.word)) e ∙ map-map (λ (l : Lined). l.word) bare ls)
 
+bare_holds : (ls ms : List Lined) → map bare ms ≡ map bare ls → map (λ (l : Lined). l.held) ms ≡ map (λ (l : Lined). l.held) ls
+bare_holds ls ms e =
+    sym (map-map (λ (l : Lined). l.held) bare ms) ∙ (ap (map (λ (l : Lined). l.held)) e ∙ map-map (λ (l : Lined). l.held) bare ls)
+
 abbrev roomy_shown : Inside → List Lined → Rooms → Schedule
 roomy_shown s ms rooms =
     record {
       threads = s.table.threads;
       lines = map (λ l. l.line) ms;
       words = map (λ l. l.word) ms;
+      holds = map (λ l. l.held) ms;
       opened = s.opened;
       rooms = rooms;
     }
@@ -155,7 +180,7 @@ roomy_shown s ms rooms =
 -- the room of a line isn't seen
 pub roomy_view : (s : Inside) (v : Schedule) (ms : List Lined) (rooms : Rooms) → shown s ≡ v → map bare ms ≡ map bare s.lanes → roomy_shown s ms rooms ≡ record v { rooms = rooms }
 roomy_view s v ms rooms e same =
-    subst (λ (u : Schedule). roomy_shown s ms rooms ≡ record u { rooms = rooms }) e (rw (bare_lines s.lanes ms same, bare_words s.lanes ms same) refl)
+    subst (λ (u : Schedule). roomy_shown s ms rooms ≡ record u { rooms = rooms }) e (rw (bare_lines s.lanes ms same, bare_words s.lanes ms same, bare_holds s.lanes ms same) refl)
 
 map_replicate : {A B : Type 0} (f : A → B) → (n : ℕ) (x : A) → map f (replicate n x) ≡ replicate n (f x)
 map_replicate f zero x = refl
@@ -163,13 +188,14 @@ map_replicate f (suc n) x = ap (λ ys. f x ∷ ys) (map_replicate f n x)
 
 abbrev first_shown : List Lined → ℕ → Schedule
 first_shown ls opened =
-    record { threads = []; lines = map (λ l. l.line) ls; words = map (λ l. l.word) ls; opened = opened; rooms = no_rooms }
+    record { threads = []; lines = map (λ l. l.line) ls; words = map (λ l. l.word) ls; holds = map (λ l. l.held) ls; opened = opened; rooms = no_rooms }
 
 pub first_view : (ls : List Lined) (places opened : ℕ) → map bare ls ≡ replicate places no_lane → first_shown ls opened ≡ begin_schedule places opened
 first_view ls places opened e =
     let lines : map (λ (l : Lined). l.line) ls ≡ replicate places [] = sym (map-map (λ (l : Lined). l.line) bare ls) ∙ (ap (map (λ (l : Lined). l.line)) e ∙ map_replicate (λ (l : Lined). l.line) places no_lane) in
     let words : map (λ (l : Lined). l.word) ls ≡ replicate places 0 = sym (map-map (λ (l : Lined). l.word) bare ls) ∙ (ap (map (λ (l : Lined). l.word)) e ∙ map_replicate (λ (l : Lined). l.word) places no_lane) in
-    rw (lines, words) refl
+    let holds : map (λ (l : Lined). l.held) ls ≡ replicate places false = sym (map-map (λ (l : Lined). l.held) bare ls) ∙ (ap (map (λ (l : Lined). l.held)) e ∙ map_replicate (λ (l : Lined). l.held) places no_lane) in
+    rw (lines, words, holds) refl
 
 pub on_err : {T E : Type 0} (r : Result T E) (P : Type 0) → P → OnErr r P
 on_err (Ok x) P h = tt
@@ -177,7 +203,7 @@ on_err (Err e) P h = h
 
 abbrev reserved_shown : Stored → List Lined → ℕ → Schedule
 reserved_shown t ms opened =
-    record { threads = t.threads; lines = map (λ l. l.line) ms; words = map (λ l. l.word) ms; opened = opened; rooms = t.rooms }
+    record { threads = t.threads; lines = map (λ l. l.line) ms; words = map (λ l. l.word) ms; holds = map (λ l. l.held) ms; opened = opened; rooms = t.rooms }
 
 pub reserved_ok : {T E : Type 0} (r : Result T E) (s : Inside) (v : Schedule) (new : Stored) (ms : List Lined) → OnOk r (new ≡ record s.table { rooms = all_rooms }) → shown s ≡ v → map bare ms ≡ map bare s.lanes → OnOk r (reserved_shown new ms s.opened ≡ record v { rooms = all_rooms })
 reserved_ok (Ok x) s v new ms ok e same = rw ok (roomy_view s v ms all_rooms e same)
@@ -192,10 +218,10 @@ reserved_err (Ok x) s v new ms err e same = tt
 reserved_err (Err x) s v new ms err e same = rw err (roomy_same s v ms e same)
 
 -- the answer that the first thread in a line goes on with
-pub answer_seen : (s : Inside) (v : Schedule) (p t : ℕ) (x : Thread) (rest : List ℕ) → shown s ≡ v → line_at (by_id s.lanes p) ≡ t ∷ rest → by_id s.table.threads t ≡ Some x → answer_next p v ≡ answer_at x.place
-answer_seen s v p t x rest e line at =
+pub answer_seen : (s : Inside) (v : Schedule) (p t : ℕ) (x : Thread) (rest : List ℕ) → shown s ≡ v → line_at (by_id s.lanes p) ≡ t ∷ rest → by_id s.table.threads t ≡ Some x → is_held p v ≡ false → answer_next p v ≡ answer_at x.place
+answer_seen s v p t x rest e line at free =
     let here : by_id v.threads t ≡ Some x = subst (λ (w : Schedule). by_id w.threads t ≡ Some x) e at in
-    ap (first_answer v) (seen_line s v p e ∙ line) ∙ ap answer_of here
+    rw free (ap (first_answer v) (seen_line s v p e ∙ line) ∙ ap answer_of here)
 
 pub no_answer : (pl : Place) → ((a : Answer) → pl ≡ Ready a → ⊥) → answer_at pl ≡ None
 no_answer Running h = refl
@@ -205,10 +231,10 @@ no_answer Waiting h = refl
 no_answer Ended h = refl
 
 -- the turn of the first thread in a line
-pub turn_seen : (s : Inside) (v : Schedule) (p t : ℕ) (x : Thread) (rest : List ℕ) → shown s ≡ v → line_at (by_id s.lanes p) ≡ t ∷ rest → by_id s.table.threads t ≡ Some x → next_in p v ≡ (ready_at t x.program x.arg x.place, begun p t v)
-turn_seen s v p t x rest e line at =
+pub turn_seen : (s : Inside) (v : Schedule) (p t : ℕ) (x : Thread) (rest : List ℕ) → shown s ≡ v → line_at (by_id s.lanes p) ≡ t ∷ rest → by_id s.table.threads t ≡ Some x → is_held p v ≡ false → next_in p v ≡ (ready_at t x.program x.arg x.place, begun p t v)
+turn_seen s v p t x rest e line at free =
     let here : by_id v.threads t ≡ Some x = subst (λ (w : Schedule). by_id w.threads t ≡ Some x) e at in
-    ap (turn_of p v) (seen_line s v p e ∙ line) ∙ ap (λ o. (ready_of t o, begun p t v)) here
+    rw free (ap (turn_of p v) (seen_line s v p e ∙ line) ∙ ap (λ o. (ready_of t o, begun p t v)) here)
 
 pub new_place : (pl : Place) → is_ready pl ≡ true → ((a : Answer) → pl ≡ Ready a → ⊥) → pl ≡ New
 new_place New e h = refl
@@ -236,3 +262,8 @@ new_turn t x row r place same is =
     let program : row.program ≡ x.program = ap (λ (s : Row). s.program) (sym same) in
     let arg : row.arg ≡ x.arg = ap (λ (s : Row). s.arg) (sym same) in
     is ∙ (rw (program, arg) refl ∙ sym (ap (ready_at t x.program x.arg) place))
+
+-- a line with a thread in a proc that isn't held
+pub not_none : (held : Bool) (line rest : List ℕ) (t : ℕ) → (held ≡ true) ⊎ (line ≡ []) → held ≡ false → line ≡ t ∷ rest → ⊥
+not_none held line rest t (inl on) free some = cc (on, free)
+not_none held line rest t (inr nil) free some = cc (nil, some)

@@ -19,6 +19,7 @@ shown s =
       threads = s.table.threads;
       lines = map (λ l. l.line) s.lanes;
       words = map (λ l. l.word) s.lanes;
+      holds = map (λ l. l.held) s.lanes;
       opened = s.opened;
       rooms = s.table.rooms;
     }

@@ -1,6 +1,9 @@
+pub mod Holding
 pub mod Kept
 pub mod Lined
 pub mod Made
+pub mod Marks
+pub mod Members
 pub mod Messages
 pub mod Schedule
 pub mod Stands

@@ -1,7 +1,7 @@
 -- Which message a reply carries.
 use Rattle.std.specs.Prelude.{ℕ, ◌≡◌, List}
 use Rattle.p9_word.specs.declared.answer.Answer.{Answer}
-use Rattle.p9_word.specs.declared.answer.Answer.TheVariants.{Done, Sent, Got, Index, NoBlock, Closed, Number, Minus, Text, Io as IoAnswered, Bad}
+use Rattle.p9_word.specs.declared.answer.Answer.TheVariants.{Done, Sent, Got, Index, NoBlock, Closed, Number, Minus, Met, Text, Io as IoAnswered, Bad}
 use Rattle.p9_word.specs.declared.answer.IoAnswer.{IoAnswer}
 use Rattle.p9_word.specs.declared.answer.IoAnswer.TheVariants as answer
 use Rattle.p9_word.specs.declared.io_call.IoCall.{IoCall}
@@ -29,6 +29,7 @@ IsOfAnswer NoBlock m = Unit {0}
 IsOfAnswer Closed m = Unit {0}
 IsOfAnswer (Number n) m = Unit {0}
 IsOfAnswer Minus m = Unit {0}
+IsOfAnswer (Met value) m = Unit {0}
 IsOfAnswer (Text text) m = m ≡ text
 IsOfAnswer Bad m = Unit {0}
 

@@ -16,11 +16,13 @@ pub record Rooms : Type 0 where
   pub name : Bool
   pub group : Bool
 
--- threads stand by their ids, lines and words by their procs, from 1 on; opened counts the procs that are open
+-- threads stand by their ids, lines, words and whether it is held by their procs, from 1 on; opened counts the procs that are
+-- open
 pub record Schedule : Type 0 where
   pub threads : List Thread
   pub lines : List (List ℕ)
   pub words : List ℕ
+  pub holds : List Bool
   pub opened : ℕ
   pub rooms : Rooms
 
@@ -33,7 +35,14 @@ no_rooms = record { thread = false; name = false; group = false }
 -- no thread was made
 abbrev pub begin_schedule : ℕ → ℕ → Schedule
 begin_schedule places opened =
-    record { threads = []; lines = replicate places []; words = replicate places 0; opened = opened; rooms = no_rooms }
+    record {
+      threads = [];
+      lines = replicate places [];
+      words = replicate places 0;
+      holds = replicate places false;
+      opened = opened;
+      rooms = no_rooms;
+    }
 
 -- thread t was made
 pub record IsMade (t : ℕ) (s : Schedule) : Type 0 where
@@ -112,9 +121,9 @@ ended t s =
 abbrev pub emptied : List ℕ → List ℕ
 emptied line = []
 
--- all threads have ended
+-- all threads have ended, and no proc is held any more
 abbrev pub all_ended : Schedule → Schedule
-all_ended s = record s { threads = map at_end s.threads; lines = map emptied s.lines }
+all_ended s = record s { threads = map at_end s.threads; lines = map emptied s.lines; holds = map (λ _. false) s.holds }
 
 -- thread t, the first in the line of proc p, runs
 abbrev pub begun : ℕ → ℕ → Schedule → Schedule

@@ -26,7 +26,7 @@ thread_of groups names t row =
       group = unwrap_or (groups t) 0;
       name = unwrap_or (names t) [];
       word = row.word;
-      marked = false;
+      marked = row.marked;
       place = row.place;
     }
 
@@ -38,7 +38,14 @@ threads_of groups names t (row ∷ rows) = thread_of groups names t row ∷ thre
 -- what a row keeps of a thread
 abbrev pub row_of : Thread → Row
 row_of thread =
-    record { proc_no = thread.proc_no; program = thread.program; arg = thread.arg; word = thread.word; place = thread.place }
+    record {
+      proc_no = thread.proc_no;
+      program = thread.program;
+      arg = thread.arg;
+      word = thread.word;
+      marked = thread.marked;
+      place = thread.place;
+    }
 
 -- a row of a thread that has ended
 abbrev pub row_ended : Row → Row

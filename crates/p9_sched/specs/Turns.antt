@@ -1,5 +1,5 @@
 -- Which threads may be asked what, and what a thread goes on with when its turn comes. thread(2).
-use Rattle.std.specs.Prelude.{ℕ, ◌==◌, ◌&&◌, Bool, List, [], ◌∷◌, Option, Some, None}
+use Rattle.std.specs.Prelude.{ℕ, ◌==◌, ◌&&◌, not, Bool, List, [], ◌∷◌, Option, Some, None, if◌then◌else◌}
 use Rattle.p9_word.specs.declared.answer.Answer.{Answer}
 use Rattle.p9_manual.specs.declared.state.Place.{Place as Stand}
 use Rattle.p9_manual.specs.declared.state.Place.TheVariants as stand
@@ -10,6 +10,7 @@ use Rattle.p9_sched.specs.declared.turns.Place.{Place}
 use Rattle.p9_sched.specs.declared.turns.Place.TheVariants as place
 use Rattle.p9_sched.specs.declared.turns.Ready.{Ready}
 use Rattle.p9_sched.specs.declared.turns.Ready.TheVariants.{New, Old}
+use Rattle.p9_sched.specs.Holding.{is_held}
 use Rattle.p9_sched.specs.Schedule.{Schedule, line_of, begun}
 
 -- where a thread is, without its answer
@@ -45,8 +46,13 @@ abbrev pub turn_of : ℕ → Schedule → List ℕ → Option Ready × Schedule
 turn_of p s [] = (None, s)
 turn_of p s (t ∷ line) = (ready_of t (by_id s.threads t), begun p t s)
 
+-- a proc that is held has no turn to give
 abbrev pub next_in : ℕ → Schedule → Option Ready × Schedule
-next_in p s = turn_of p s (line_of p s)
+next_in p s = if is_held p s then (None, s) else turn_of p s (line_of p s)
+
+-- a thread is ready in a proc that isn't held
+abbrev pub can_run : Schedule → Thread → Bool
+can_run s thread = is_ready thread.place && not (is_held thread.proc_no s)
 
 -- the answer that a ready thread goes on with
 abbrev pub answer_at : Stand → Option Answer
@@ -65,4 +71,4 @@ first_answer s [] = None
 first_answer s (t ∷ line) = answer_of (by_id s.threads t)
 
 abbrev pub answer_next : ℕ → Schedule → Option Answer
-answer_next p s = first_answer s (line_of p s)
+answer_next p s = if is_held p s then None else first_answer s (line_of p s)

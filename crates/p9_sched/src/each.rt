@@ -17,7 +17,7 @@ pub(crate) fn reserve_each(lanes: &mut [Lane]) -> Result<(), NoMemory>
     Ok(())
 }
 
-/// No thread lives any more.
+/// No thread lives any more, and no proc is held.
 pub(crate) fn clear_each(lanes: &mut [Lane])
     ensures { lanes.new ≡ map cleared lanes.old }
 {
@@ -40,9 +40,9 @@ pub(crate) fn any_running(lanes: &[Lane]) -> bool
     lanes.iter().any(|lane| lane.running().is_some())
 }
 
-/// Whether a thread stands in the line of one of them.
+/// Whether a thread stands in the line of one of them that isn't held.
 pub(crate) fn any_ready(lanes: &[Lane]) -> bool
     ensures { result ≡ list_any has_ready lanes.now }
 {
-    lanes.iter().any(|lane| lane.ready() > 0)
+    lanes.iter().any(|lane| lane.ready() > 0 && !lane.is_held())
 }

@@ -1,5 +1,5 @@
 ghost use Rattle.std.specs.Prelude.{◌≡◌, ◌+◌, ◌<◌, ◌≤◌, length, slice_get, OnOk};
-ghost use Rattle.p9_sched.specs.Lined.{bare, no_lane, joined, queued, stopped, left, cleared, started, RunsOffLine};
+ghost use Rattle.p9_sched.specs.Lined.{bare, no_lane, joined, queued, queued_first, holding, stopped, left, cleared, started, RunsOffLine};
 
 use crate::line::drop_from_line;
 use p9_word::limits::MOST_THREADS;
@@ -8,7 +8,8 @@ use std::alloc::Global;
 use std::collections::VecDeque;
 use std::marker::Model;
 
-/// A proc place: its word, the line of its ready threads, how many of its threads live, and the one that runs.
+/// A proc place: its word, the line of its ready threads, how many of its threads live, the one that runs, and whether it is
+/// held.
 ///
 /// Contracts see also how many threads the line has room for.
 #[derive(Drop)]
@@ -17,6 +18,7 @@ pub(crate) struct Lane {
     line: VecDeque<Tid>,
     living: u32,
     running: Option<Tid>,
+    held: bool,
 }
 
 impl Model for Lane {
@@ -30,6 +32,7 @@ impl Model for Lane {
       line = l.line.items;
       living = l.living;
       running = l.running;
+      held = l.held;
       room = deque_capacity l.line;
     } };
 }
@@ -44,6 +47,7 @@ impl Lane {
             line: VecDeque::new(alloc),
             living: 0,
             running: None,
+            held: false,
         }
     }
 
@@ -100,6 +104,20 @@ impl Lane {
         self.line.front().copied()
     }
 
+    /// Whether it is held.
+    pub fn is_held(&self) -> bool
+        ensures { result ≡ self.now.held }
+    {
+        self.held
+    }
+
+    /// Holds it, or releases it.
+    pub fn set_held(&mut self, held: bool)
+        ensures { self.new ≡ holding held self.old }
+    {
+        self.held = held;
+    }
+
     /// A new thread stands last in the line.
     pub fn join(&mut self, t: Tid)
         requires room { length self.old.line < self.old.room }
@@ -128,6 +146,15 @@ impl Lane {
         self.line.push_back_reserved(t);
     }
 
+    /// A thread that ran or waited stands first in the line.
+    pub fn queue_first(&mut self, t: Tid)
+        requires { length self.old.line < self.old.room }
+        ensures { self.new ≡ queued_first t self.old }
+    {
+        self.stop(t);
+        self.line.push_front_reserved(t);
+    }
+
     /// A thread has ended.
     ///
     /// One that ran costs the same however many threads are ready.
@@ -143,12 +170,13 @@ impl Lane {
         }
     }
 
-    /// No thread lives any more.
+    /// No thread lives any more, and it isn't held.
     pub fn clear(&mut self)
         ensures { self.new ≡ cleared self.old }
     {
         self.living = 0;
         self.running = None;
+        self.held = false;
         self.line.clear();
     }
 

@@ -1,7 +1,7 @@
 ghost use Rattle.std.specs.Prelude.{◌≡◌, ℕ, ◌-◌, ◌<◌, ◌≤◌, Some, length, map, replicate, option_map, slice_get, IfOk, IfSome, OnOk};
 ghost use Rattle.std.specs.List.{list_any};
 ghost use Rattle.p9_manual.specs.State.{by_id, changed};
-ghost use Rattle.p9_sched.specs.Lined.{bare, no_lane, room_at, has_living, has_running, has_ready, HasSpare, RunsOffLine, joined, queued, stopped, left, cleared, started, worded, line_at};
+ghost use Rattle.p9_sched.specs.Lined.{bare, no_lane, room_at, has_living, has_running, has_ready, HasSpare, RunsOffLine, joined, queued, queued_first, holding, stopped, left, cleared, started, worded, line_at};
 ghost use Rattle.p9_sched.specs.Stored.{HasId};
 
 use crate::each::{any_living, any_ready, any_running, clear_each, reserve_each};
@@ -105,6 +105,23 @@ impl Lanes {
         self.all[p as usize - 1].first()
     }
 
+    /// Whether a proc is held.
+    pub fn is_held(&self, p: u32) -> bool
+        requires { HasId p self.now }
+        ensures { option_map (λ l. l.held) (by_id self.now p) ≡ Some result }
+    {
+        self.all[p as usize - 1].is_held()
+    }
+
+    /// Holds a proc, or releases it.
+    pub fn set_held(&mut self, p: u32, held: bool)
+        requires { HasId p self.old }
+        ensures { self.new ≡ changed (holding held) self.old (p - 1) }
+    {
+        let lane = &mut self.all[p as usize - 1];
+        lane.set_held(held);
+    }
+
     /// Whether a thread lives in one of them.
     pub fn any_living(&self) -> bool
         ensures { result ≡ list_any has_living self.now }
@@ -119,7 +136,7 @@ impl Lanes {
         any_running(&self.all)
     }
 
-    /// Whether a thread stands in the line of one of them.
+    /// Whether a thread stands in the line of one of them that isn't held.
     pub fn any_ready(&self) -> bool
         ensures { result ≡ list_any has_ready self.now }
     {
@@ -156,6 +173,16 @@ impl Lanes {
         lane.queue(t);
     }
 
+    /// A thread that ran or waited stands first in the line of its proc.
+    pub fn queue_first(&mut self, p: u32, t: Tid)
+        requires place { HasId p self.old }
+        requires room { IfSome (by_id self.old p) (λ l. length l.line < l.room) }
+        ensures { self.new ≡ changed (queued_first t) self.old (p - 1) }
+    {
+        let lane = &mut self.all[p as usize - 1];
+        lane.queue_first(t);
+    }
+
     /// A thread of a proc has ended.
     pub fn leave(&mut self, p: u32, t: Tid)
         requires place { HasId p self.old }
@@ -166,7 +193,7 @@ impl Lanes {
         lane.leave(t);
     }
 
-    /// No thread lives any more.
+    /// No thread lives any more, and no proc is held.
     pub fn clear(&mut self)
         ensures { self.new ≡ map cleared self.old }
     {

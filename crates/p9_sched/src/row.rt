@@ -11,6 +11,8 @@ pub(crate) struct Row {
     pub arg: u64,
     /// Its word.
     pub word: u64,
+    /// It is marked to die.
+    pub marked: bool,
     /// Where it is.
     pub place: Place,
 }

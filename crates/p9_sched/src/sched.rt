@@ -4,14 +4,17 @@ ghost use Rattle.std.specs.Option.{option_copied};
 ghost use Rattle.p9_word.specs.declared.request.Request.{Request};
 ghost use Rattle.p9_manual.specs.Create.{with_thread};
 ghost use Rattle.p9_manual.specs.Ends.{ended as state_ended, all_ended as state_all_ended};
-ghost use Rattle.p9_manual.specs.Places.{lives, runs, stands_ready, runs_in, runs_there, lives_in};
+ghost use Rattle.p9_manual.specs.Places.{lives, runs, runs_in, runs_there, lives_in};
 ghost use Rattle.p9_manual.specs.Standing.{times};
-ghost use Rattle.p9_manual.specs.State.{by_id, readied as state_readied, waiting as state_waiting};
+ghost use Rattle.p9_manual.specs.State.{by_id, readied as state_readied, waiting as state_waiting, wake};
 ghost use Rattle.p9_manual.specs.Threads.{with_changed, in_group, with_name, with_word, set_proc_word};
 ghost use Rattle.p9_sched.specs.Made.{RefusesThread, AddsThread, RefusesProc, AddsProc};
+ghost use Rattle.p9_sched.specs.Holding.{is_held, readied_first, with_held};
+ghost use Rattle.p9_sched.specs.Marks.{mark_of, marked_thread, with_mark_of};
+ghost use Rattle.p9_sched.specs.Members.{NextMember, NoMember};
 ghost use Rattle.p9_sched.specs.Schedule.{IsMade, IsPlace, begin_schedule, all_rooms, readied, waiting, ended, all_ended, proc_of, group_of, name_of, word_of, line_of, with_group_of, with_name_of, with_word_of, with_proc_word};
-ghost use Rattle.p9_sched.specs.Stands.{Tracks, TracksStanding, after_next, with_proc_in};
-ghost use Rattle.p9_sched.specs.Turns.{place_of, next_in, is_ready_in, answer_next};
+ghost use Rattle.p9_sched.specs.Stands.{IsWaitBeside, IsWaitHolding, Tracks, TracksHolder, TracksStanding, after_next, with_proc_in};
+ghost use Rattle.p9_sched.specs.Turns.{place_of, next_in, is_ready_in, answer_next, can_run};
 
 use crate::lanes::Lanes;
 use crate::table::Table;
@@ -115,15 +118,73 @@ impl Sched {
         self.lanes.queue(p, t);
     }
 
-    /// Lets a running thread wait.
+    /// Makes a thread that runs or waits ready with an answer, first in the line of its proc.
+    pub fn ready_first(&mut self, t: Tid, answer: Answer)
+        requires { (place_of (by_id self.old.threads t) ≡ Place.Running) ⊎ (place_of (by_id self.old.threads t) ≡ Place.Waiting) }
+        ensures ready { self.new ≡ readied_first t answer self.old }
+        ensures place { IsPlace (proc_of (by_id self.old.threads t)) self.old }
+    {
+        let p = self.table.row(t).proc_no;
+        self.table.put(t, p9_manual::Place::Ready(answer));
+        self.lanes.queue_first(p, t);
+    }
+
+    /// Makes a thread whose wait held its proc ready with an answer, first in the line, and releases the proc. lock(2),
+    /// rendezvous(2).
+    pub fn ready_holder(&mut self, t: Tid, answer: Answer)
+        requires { place_of (by_id self.old.threads t) ≡ Place.Waiting }
+        ensures ready { self.new ≡ with_held (proc_of (by_id self.old.threads t)) false (readied_first t answer self.old) }
+        ensures stands { TracksHolder t (wake t answer) self.old self.new }
+    {
+        let p = self.table.row(t).proc_no;
+        self.ready_first(t, answer);
+        self.release(p);
+    }
+
+    /// Lets a running thread wait, and other threads of its proc run.
     pub fn wait(&mut self, t: Tid)
         requires { place_of (by_id self.old.threads t) ≡ Place.Running }
         ensures waits { self.new ≡ waiting t self.old }
-        ensures stands { (request : Request) → Tracks (λ s. (state_waiting t request s).state) self.old self.new }
+        ensures stands { (request : Request) → IsWaitBeside request → Tracks (λ s. (state_waiting t request s).state) self.old self.new }
     {
         let p = self.table.row(t).proc_no;
         self.table.put(t, p9_manual::Place::Waiting);
         self.lanes.stop(p, t);
+    }
+
+    /// Lets a running thread wait, and holds its proc until it goes on. lock(2), rendezvous(2).
+    pub fn wait_holding(&mut self, t: Tid)
+        requires { place_of (by_id self.old.threads t) ≡ Place.Running }
+        ensures waits { self.new ≡ with_held (proc_of (by_id self.old.threads t)) true (waiting t self.old) }
+        ensures stands { (request : Request) → IsWaitHolding request → Tracks (λ s. (state_waiting t request s).state) self.old self.new }
+    {
+        let p = self.table.row(t).proc_no;
+        self.wait(t);
+        self.hold(p);
+    }
+
+    /// Holds a proc: no thread of it has a turn until it is released.
+    pub fn hold(&mut self, p: u32)
+        requires { IsPlace p self.old }
+        ensures { self.new ≡ with_held p true self.old }
+    {
+        self.lanes.set_held(p, true);
+    }
+
+    /// Releases a proc that was held.
+    pub fn release(&mut self, p: u32)
+        requires { IsPlace p self.old }
+        ensures { self.new ≡ with_held p false self.old }
+    {
+        self.lanes.set_held(p, false);
+    }
+
+    /// Whether a proc is held.
+    pub fn is_held(&self, p: u32) -> bool
+        requires { IsPlace p self.now }
+        ensures { result ≡ is_held p self.now }
+    {
+        self.lanes.is_held(p)
     }
 
     /// Ends a thread that lives: it stands in no line any more.
@@ -131,7 +192,7 @@ impl Sched {
         requires { place_of (by_id self.old.threads t) ≢ Place.Ended }
         ensures ended { self.new ≡ ended t self.old }
         ensures place { IsPlace (proc_of (by_id self.old.threads t)) self.old }
-        ensures stands { Tracks (state_ended t) self.old self.new }
+        ensures stands { place_of (by_id self.old.threads t) ≡ Place.Running → TracksStanding (state_ended t) self.old self.new }
     {
         let p = self.table.row(t).proc_no;
         self.table.put(t, p9_manual::Place::Ended);
@@ -147,15 +208,18 @@ impl Sched {
         self.lanes.clear();
     }
 
-    /// Gives the turn to the first ready thread of a proc in which none runs. `None` where none is ready there,
-    /// and then nothing changes. thread(2).
+    /// Gives the turn to the first ready thread of a proc in which none runs. `None` where none is ready there or the
+    /// proc is held, and then nothing changes. thread(2).
     pub fn next_of(&mut self, p: u32) -> Option<Ready>
         requires place { IsPlace p self.old }
         requires idle { list_any (runs_in p) self.old.threads ≡ false }
         ensures turn { (result, self.new) ≡ next_in p self.old }
-        ensures none { (result ≡ None) ↔ (line_of p self.old ≡ []) }
+        ensures none { (result ≡ None) ↔ ((is_held p self.old ≡ true) ⊎ (line_of p self.old ≡ [])) }
         ensures stands { Tracks (after_next p) self.old self.new }
     {
+        if self.lanes.is_held(p) {
+            return None;
+        }
         let t = self.lanes.start(p)?;
         match self.table.replace(t, p9_manual::Place::Running) {
             p9_manual::Place::Ready(answer) => Some(Ready::Old(t, answer)),
@@ -166,12 +230,15 @@ impl Sched {
         }
     }
 
-    /// The answer that the next thread of a proc goes on with, or `None` where none is ready there or the next one
-    /// is new.
+    /// The answer that the next thread of a proc goes on with, or `None` where none is ready there, the next one is new, or
+    /// the proc is held.
     pub fn next_answer(&self, p: u32) -> Option<&Answer>
         requires { IsPlace p self.now }
         ensures { option_copied result ≡ answer_next p self.now }
     {
+        if self.is_held(p) {
+            return None;
+        }
         let t = self.lanes.first(p)?;
         match &self.table.row(t).place {
             p9_manual::Place::Ready(answer) => Some(answer),
@@ -254,9 +321,9 @@ impl Sched {
         self.lanes.any_running()
     }
 
-    /// Whether a thread is ready.
+    /// Whether a thread is ready in a proc that isn't held.
     pub fn has_ready(&self) -> bool
-        ensures { result ≡ list_any stands_ready self.now.threads }
+        ensures { result ≡ list_any (can_run self.now) self.now.threads }
     {
         self.lanes.any_ready()
     }
@@ -292,6 +359,30 @@ impl Sched {
         ensures stands { Tracks (with_changed (in_group group) t) self.old self.new }
     {
         self.table.set_group(t, group);
+    }
+
+    /// The first thread above `t` that lives and is of this group; `t` may be 0. `None` where there is none.
+    pub fn member_after(&self, group: u32, t: Tid) -> Option<Tid>
+        ensures { MatchOption result (NoMember group t self.now.threads) (NextMember group t self.now.threads) }
+    {
+        self.table.member_after(group, t)
+    }
+
+    /// Marks a thread to die. thread(2).
+    pub fn mark(&mut self, t: Tid)
+        requires { IsMade t self.old }
+        ensures mark { self.new ≡ with_mark_of t self.old }
+        ensures stands { Tracks (with_changed marked_thread t) self.old self.new }
+    {
+        self.table.mark(t);
+    }
+
+    /// Whether a thread is marked to die. A new one isn't.
+    pub fn is_marked(&self, t: Tid) -> bool
+        requires { IsMade t self.now }
+        ensures { result ≡ mark_of (by_id self.now.threads t) }
+    {
+        self.table.row(t).marked
     }
 
     /// The name of a thread; at first it has no bytes. thread(2).

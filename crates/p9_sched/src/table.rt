@@ -1,7 +1,9 @@
-ghost use Rattle.std.specs.Prelude.{◌≡◌, ◌↔◌, IsTrue, ◌+◌, ◌-◌, ◌<◌, [], Some, true, false, length, map, option_map, OnErr, OnOk};
+ghost use Rattle.std.specs.Prelude.{◌≡◌, ◌↔◌, IsTrue, ◌+◌, ◌-◌, ◌<◌, ◌≤◌, [], Some, true, false, length, map, option_map, MatchOption, OnErr, OnOk};
 ghost use Rattle.p9_manual.specs.State.{by_id, changed, placed};
 ghost use Rattle.p9_manual.specs.Ends.{at_end};
 ghost use Rattle.p9_manual.specs.Threads.{in_group, with_name, with_word};
+ghost use Rattle.p9_sched.specs.Marks.{marked_thread};
+ghost use Rattle.p9_sched.specs.Members.{is_member, NextMember, NoMember};
 ghost use Rattle.p9_sched.specs.Schedule.{all_rooms, no_rooms, group_of, name_of};
 ghost use Rattle.p9_sched.specs.Stored.{HasId, row_of, with_fresh};
 
@@ -99,6 +101,7 @@ impl Table {
             program,
             arg,
             word: 0,
+            marked: false,
             place: Place::New,
         });
         self.thread_room = false;
@@ -193,5 +196,39 @@ impl Table {
     {
         let row = &mut self.rows[t as usize - 1];
         row.word = word;
+    }
+
+    /// Marks a thread to die.
+    pub fn mark(&mut self, t: Tid)
+        requires { HasId t self.old.threads }
+        ensures { self.new ≡ record self.old { threads = changed marked_thread self.old.threads (t - 1) } }
+    {
+        let row = &mut self.rows[t as usize - 1];
+        row.marked = true;
+    }
+
+    /// Whether a thread lives and is of this group.
+    pub fn is_member(&self, group: u32, t: Tid) -> bool
+        requires { HasId t self.now.threads }
+        ensures { result ≡ is_member group (by_id self.now.threads t) }
+    {
+        match self.row(t).place {
+            Place::Ended => false,
+            _ => self.group(t) == group,
+        }
+    }
+
+    /// The first thread above `t` that lives and is of this group. `None` where there is none.
+    pub fn member_after(&self, group: u32, t: Tid) -> Option<Tid>
+        requires { length self.now.threads ≤ MOST_THREADS }
+        ensures { MatchOption result (NoMember group t self.now.threads) (NextMember group t self.now.threads) }
+    {
+        let made = self.rows.len() as u32;
+        for u in t..made {
+            if self.is_member(group, u + 1) {
+                return Some(u + 1);
+            }
+        }
+        None
     }
 }

@@ -41,7 +41,7 @@ returns-clause-ready c =
     let mine = row_proc (by_id c.self.inside.table.threads c.args.t) a.thread c.row.result.now a.there c.row.ensures in
     let p = c.row.result.now.proc_no in
     let pid = seen_proc c.self.inside c.args.self.now c.args.t p a.thread c.self.view_is a.there mine in
-    rw (pid, c.put.ensures, c.queue.ensures) (moved_view c.self.inside c.args.self.now (placed c.args.t (Ready c.args.answer)) (queued c.args.t) (with_last c.args.t) p c.self.view_is (λ l. refl) (λ l. refl))
+    rw (pid, c.put.ensures, c.queue.ensures) (moved_view c.self.inside c.args.self.now (placed c.args.t (Ready c.args.answer)) (queued c.args.t) (with_last c.args.t) p c.self.view_is (λ l. refl) (λ l. refl) (λ l. refl))
 
 pub returns-clause-place : goal.returns-clause-place
 returns-clause-place c =

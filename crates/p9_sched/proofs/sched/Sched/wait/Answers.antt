@@ -31,7 +31,7 @@ invariant_of-self c =
 pub returns-clause-waits : goal.returns-clause-waits
 returns-clause-waits c =
     let p = c.row.result.now.proc_no in
-    rw (c.put.ensures, c.stop.ensures) (stayed_view c.self.inside c.args.self.now (placed c.args.t Waiting) (stopped c.args.t) p c.self.view_is (λ l. refl) (λ l. refl))
+    rw (c.put.ensures, c.stop.ensures) (stayed_view c.self.inside c.args.self.now (placed c.args.t Waiting) (stopped c.args.t) p c.self.view_is (λ l. refl) (λ l. refl) (λ l. refl))
 
 pub returns-clause-stands : goal.returns-clause-stands
-returns-clause-stands c = λ request. tracks_waiting c.args.t request c.args.self.now _ (returns-clause-waits c)
+returns-clause-stands c = λ request beside. tracks_waiting c.args.t request beside c.args.self.now _ (returns-clause-waits c)
