@@ -13,7 +13,7 @@ use Rattle.p9_manual.specs.declared.state.Element.{Element}
 use Rattle.p9_manual.specs.declared.state.Party.{Party}
 use Rattle.p9_manual.specs.Alt.{parties_without}
 use Rattle.p9_manual.specs.Commit.{Deal, receive_from, pass_on, take_over, element, with_elements, sender_woken, refilled as refilled_with}
-use Rattle.p9_manual.specs.Told.{sent_answer}
+use Rattle.p9_manual.specs.Told.{sent_answer, got_answer, kept_bytes, sender_bytes}
 use Rattle.p9_manual.specs.AltEntries.{sends_on, receives_on}
 use Rattle.p9_manual.specs.ReadyEntries.{unfreed}
 use Rattle.p9_manual.specs.State.{by_id}
@@ -214,3 +214,13 @@ over_left turn slot c x y waits waits_new made none unshut same left =
 pub none_given : (c elsize : ℕ) (o : Option Party) → None ≡ sender_gives c elsize o → None ≡ o
 none_given c elsize None e = refl
 none_given c elsize (Some w) e = cc
+
+some_is : {A : Type 0} (x y : A) → Some x ≡ Some y → x ≡ y
+some_is x y e = cc
+
+-- the caller is told of the value that is given
+pub taken_given : (turn : Turn) (c elsize : ℕ) (slot : Slot) (wake : Wake) (x : Element) (o : Option Party) → ◌≡◌ {A = Option (Wake × Element)} (Some (wake, x)) (sender_gives c elsize o) → got_answer turn.single turn.i x.from (kept_bytes slot x.msg) ≡ taken_answer turn c elsize slot o
+taken_given turn c elsize slot wake x None e = absurd (cc e)
+taken_given turn c elsize slot wake x (Some w) e =
+    let same : x ≡ element w.at (sender_bytes c elsize w) = ap (λ (g : Wake × Element). g.1) (some_is _ _ e) in
+    ap (λ (y : Element). got_answer turn.single turn.i y.from (kept_bytes slot y.msg)) same

@@ -2,6 +2,7 @@ pub mod Bounds
 pub mod Callers
 pub mod Deals
 pub mod Fitting
+pub mod Leaving
 pub mod Numbers
 pub mod Changes
 pub mod Sends

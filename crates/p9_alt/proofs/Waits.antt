@@ -37,7 +37,7 @@ some_or true x o r e = refl
 some_or false x o r e = e
 
 -- one is found where one passes
-found_any : {A : Type 0} (p : A → Bool) (ws : List A) → is_some (find p ws) ≡ list_any p ws
+pub found_any : {A : Type 0} (p : A → Bool) (ws : List A) → is_some (find p ws) ≡ list_any p ws
 found_any p [] = refl
 found_any p (w ∷ ws) = some_or (p w) w (find p ws) (list_any p ws) (found_any p ws)
 

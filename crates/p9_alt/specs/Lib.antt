@@ -5,3 +5,4 @@ pub mod Lends
 pub mod Offered
 pub mod Passing
 pub mod Sides
+pub mod Withdrawn

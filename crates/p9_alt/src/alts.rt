@@ -10,13 +10,14 @@ ghost use Rattle.p9_chan.specs.Channels.{IsMade, chan_of, is_closed_in, emptied,
 ghost use Rattle.p9_alt.specs.Exchange.{others, HasMemory, NoSendOnClosed, IsIdle, AreBefore, offer_of, wake_of, chans_after, waits_after, pair_of, closed_on, shown_alt};
 ghost use Rattle.p9_alt.specs.Offered.{caller, offered};
 ghost use Rattle.p9_alt.specs.Passing.{AreUnmet, meets, nth_deal, IsDealt, IsLeft};
+ghost use Rattle.p9_alt.specs.Withdrawn.{withdrawn};
 
 use crate::answers::fail_all;
 use crate::commit::{Done, Turn, commit};
 use crate::entries::{entry_out, fits, is_closed_list};
 use crate::lists::Lists;
 use crate::offer::{Offer, Wake};
-use crate::queue::{awaiting, is_awaited};
+use crate::queue::{awaiting, is_awaited, thread_out};
 use crate::ready::{most_zeros, ready_count, ready_from, ready_number, zeros_for};
 use crate::side::Side;
 use crate::zeros::Zeros;
@@ -284,6 +285,22 @@ impl Alts {
         ensures { result ≡ count_by (waits_on c) self.now.waits }
     {
         awaiting(&self.waits, Side::Either, c)
+    }
+
+    /// A thread's alt leaves the waits with all its entries, and nobody is woken. It is false exactly where the thread doesn't
+    /// wait here, and then nothing changes.
+    pub fn withdraw(&mut self, tid: Tid) -> bool
+        ensures waited { result ≡ list_any (λ w. w.tid == tid) self.old.waits }
+        ensures after { self.new ≡ withdrawn tid self.old }
+        ensures stays { result ≡ false → self.new ≡ self.old }
+    {
+        match thread_out(&mut self.waits, tid) {
+            Some(w) => {
+                self.lists.keep(w.entries);
+                true
+            }
+            None => false,
+        }
     }
 
     /// Nobody waits any more, and nobody is woken.

@@ -1,4 +1,4 @@
-ghost use Rattle.std.specs.Prelude.{◌≡◌, ◌≤◌, length, slice_get, count_by, is_some, IfSome};
+ghost use Rattle.std.specs.Prelude.{◌≡◌, ◌≤◌, length, slice_get, count_by, is_some, IfSome, IfNone, position, ◌==◌};
 ghost use Rattle.std.specs.List.{list_any, find};
 ghost use Rattle.p9_alt.specs.Exchange.{others};
 ghost use Rattle.p9_alt.specs.Kept.{IsQueue};
@@ -72,5 +72,26 @@ pub(crate) fn first_out(waits: &mut Vec<Party>, side: Side, c: u32, from: usize)
         Some(waits.remove(i))
     } else {
         None
+    }
+}
+
+/// Where this thread stands among all that wait, counted from 0.
+fn place_of(waits: &[Party], tid: Tid) -> Option<usize>
+    ensures { result ≡ position (λ w. w.tid == tid) waits.now }
+{
+    waits.iter().position(|w| w.tid == tid)
+}
+
+/// The alt in which this thread waits. It waits no more.
+pub(crate) fn thread_out(waits: &mut Vec<Party>, tid: Tid) -> Option<Party>
+    requires queue { IsQueue waits.old.items }
+    ensures alt { result ≡ find (λ w. w.tid == tid) waits.old.items }
+    ensures waits { waits.new.items ≡ others tid waits.old.items }
+    ensures none { IfNone result (waits.new.items ≡ waits.old.items) }
+    ensures less { IsLess waits.old waits.new }
+{
+    match place_of(waits, tid) {
+        Some(i) => Some(waits.remove(i)),
+        None => None,
     }
 }

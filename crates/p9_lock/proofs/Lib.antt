@@ -1,5 +1,6 @@
 pub mod Firsts
 pub mod Held
+pub mod Leaving
 pub mod Places
 pub mod Queue
 pub mod Released

@@ -1,5 +1,5 @@
 -- What callers see of the locks and of the threads that wait at them, and what each call changes. lock(2), rendezvous(2).
-use Rattle.std.specs.Prelude.{ℕ, ◌≡◌, Bool, false, List, [], Option, Some, None, replicate, unwrap_or, length, IsSome}
+use Rattle.std.specs.Prelude.{ℕ, ◌≡◌, Bool, false, List, [], Option, Some, None, replicate, length, IsSome}
 use Rattle.p9_word.specs.Setup.{IsBetween}
 use Rattle.p9_manual.specs.declared.locks.Sort.{Sort}
 use Rattle.p9_manual.specs.declared.locks.Sort.TheVariants as sort
@@ -9,8 +9,9 @@ use Rattle.p9_manual.specs.Claims.{Claim, rw_at}
 use Rattle.p9_manual.specs.Queues.{writer_first}
 use Rattle.p9_manual.specs.Unlocks.{Grant, rw_passed}
 use Rattle.p9_manual.specs.Refs.{with_value}
+use Rattle.p9_manual.specs.RendezCalls.{qlock_of as qlock_at}
 use Rattle.p9_manual.specs.State.{by_id}
-use Rattle.p9_lock.specs.Waiting.{wait_of}
+use Rattle.p9_lock.specs.Waiting.{others, wait_of}
 use Rattle.p9_lock.specs.declared.meet.Meet.{Meet}
 use Rattle.p9_lock.specs.declared.meet.Meet.TheVariants.{Met, Waits}
 
@@ -64,9 +65,13 @@ passed_on k x = rw_passed k (rw_at k x.holds).readers (writer_first k x.waits) x
 abbrev pub slept : Grant → Locking → Locking
 slept g x = record x { holds = g.holds; waits = g.waits; room = false }
 
+-- thread t waits no more: the others wait as before, and nobody is granted a lock
+abbrev pub left_by : ℕ → Locking → Locking
+left_by t x = record x { waits = others t x.waits }
+
 -- the QLock of Rendez r; no QLock is number 0
 abbrev pub qlock_of : ℕ → Locking → ℕ
-qlock_of r x = unwrap_or (by_id x.rendezes r) 0
+qlock_of r x = qlock_at r x.rendezes
 
 -- what one who comes with a tag is told
 abbrev pub meet_of : Option LockWaiter → Meet

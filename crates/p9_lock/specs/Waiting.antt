@@ -1,6 +1,6 @@
 -- What is seen of the threads that wait, and of the readers.
-use Rattle.std.specs.Prelude.{ℕ, ◌-◌, ◌==◌, Bool, List, Option}
-use Rattle.std.specs.List.{find}
+use Rattle.std.specs.Prelude.{ℕ, ◌-◌, ◌==◌, Bool, not, List, Option}
+use Rattle.std.specs.List.{filter, find}
 use Rattle.std.specs.Option.{option_map}
 use Rattle.p9_manual.specs.declared.locks.LockWait.{LockWait}
 use Rattle.p9_manual.specs.declared.locks.LockWaiter.{LockWaiter}
@@ -24,3 +24,7 @@ held_so k hold rwlocks = changed (λ _. hold) rwlocks (k - 1)
 -- where thread t waits
 abbrev pub wait_of : ℕ → List LockWaiter → Option LockWait
 wait_of t waits = option_map (λ w. w.what) (find (λ w. w.tid == t) waits)
+
+-- the threads that wait, but for thread t
+abbrev pub others : ℕ → List LockWaiter → List LockWaiter
+others t waits = filter (λ w. not (w.tid == t)) waits

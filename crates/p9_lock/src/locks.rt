@@ -1,4 +1,4 @@
-ghost use Rattle.std.specs.Prelude.{◌≡◌, ◌↔◌, ◌≤◌, ◌+◌, ◌++◌, None, false, true, length, IfNone, IfOk, IfSome, IsSome, IsTrue, OnErr, OnOk};
+ghost use Rattle.std.specs.Prelude.{[], ◌≡◌, ◌↔◌, ◌≤◌, ◌+◌, ◌++◌, None, false, true, length, is_some, IfNone, IfOk, IfSome, IsSome, IsTrue, OnErr, OnOk};
 ghost use Rattle.std.specs.Option.{option_to_list};
 ghost use Rattle.p9_manual.specs.Claims.{attempt, can_get, claim, has_lock, holder_of, rw_hold, with_hold};
 ghost use Rattle.p9_manual.specs.Queues.{readers_in, readers_left, waits_for, without_first};
@@ -7,8 +7,8 @@ ghost use Rattle.p9_manual.specs.Rendez.{count_woken, sleep, sleepers, wakeup, w
 ghost use Rattle.p9_manual.specs.Rendezvous.{partner, rendezvous};
 ghost use Rattle.p9_manual.specs.State.{by_id};
 ghost use Rattle.p9_manual.specs.Unlocks.{first_for, release};
-ghost use Rattle.p9_lock.specs.Locking.{IsIdle, IsLock, IsRef, begin_locking, claimed, granted, meet_of, passed_on, qlock_of, slept, value_in, with_ref};
-ghost use Rattle.p9_lock.specs.Stands.{Tracks};
+ghost use Rattle.p9_lock.specs.Locking.{IsIdle, IsLock, IsRef, begin_locking, claimed, granted, left_by, meet_of, passed_on, qlock_of, slept, value_in, with_ref};
+ghost use Rattle.p9_lock.specs.Stands.{Tracks, without_wait};
 ghost use Rattle.p9_lock.specs.Waiting.{held_so, wait_of};
 
 use crate::holders;
@@ -427,6 +427,25 @@ impl Locks {
         let value = self.refs[i].checked_sub(1)?;
         self.refs[i] = value;
         Some(value)
+    }
+
+    /// Thread t leaves the queue, the tag or the Rendez where it waits. Who holds the locks stays, and nobody is granted one. It is
+    /// false exactly where t waits at none, and then nothing changes.
+    #[tactic(auto, using(crate::proofs::Leaving::leaves_state))]
+    pub fn leave(&mut self, t: Tid) -> bool
+        ensures waited { result ≡ is_some (wait_of t self.old.waits) }
+        ensures after { self.new ≡ left_by t self.old }
+        ensures stays { result ≡ false → self.new ≡ self.old }
+        ensures stands { Tracks (without_wait t) self.old self.new }
+    {
+        self.waits.leave(t)
+    }
+
+    /// Nobody waits any more, since all threads have ended; who holds the locks stays.
+    pub fn end_all(&mut self)
+        ensures { self.new ≡ record self.old { waits = []; room = false } }
+    {
+        self.waits.clear();
     }
 
     /// RWLock k has no holder but these readers, if any: it is granted to the writer at the head of its queue, or else to all

@@ -1,9 +1,9 @@
-ghost use Rattle.std.specs.Prelude.{◌≡◌, ◌<◌, ◌+◌, ◌^◌, ◌==◌, ◌++◌, [], false, true, length, is_some, OnOk, OnErr, OnSome, IfNone, position, vec_len, vec_capacity};
+ghost use Rattle.std.specs.Prelude.{◌≡◌, ◌≤◌, ◌<◌, ◌+◌, ◌^◌, ◌==◌, ◌++◌, [], false, true, length, is_some, OnOk, OnErr, OnSome, IfNone, position, vec_len, vec_capacity};
 ghost use Rattle.std.specs.List.{find, list_any};
 ghost use Rattle.std.specs.Option.{option_copied, option_to_list};
 ghost use Rattle.p9_manual.specs.Queues.{waits_for, waits_at_rw, without_first, writer_first, readers_in, readers_left, joined};
 ghost use Rattle.p9_manual.specs.Rendez.{sleepers, wakeup, wakeup_all};
-ghost use Rattle.p9_lock.specs.Waiting.{wait_of};
+ghost use Rattle.p9_lock.specs.Waiting.{others, wait_of};
 
 use p9_manual::{LockWait, LockWaiter, Sort};
 use p9_word::{NoMemory, Tid};
@@ -123,6 +123,14 @@ impl Waits {
         self.room = false;
     }
 
+    /// Nobody waits any more.
+    pub fn clear(&mut self)
+        ensures { self.new ≡ record self.old { waits = []; room = false } }
+    {
+        self.items.clear();
+        self.room = false;
+    }
+
     /// A thread waits, behind all others.
     pub fn join(&mut self, tid: Tid, what: LockWait, value: u64)
         requires { self.old.room ≡ true }
@@ -146,6 +154,16 @@ impl Waits {
     {
         let w = waiter(&self.items, tid)?;
         Some(w.what)
+    }
+
+    /// This thread waits no more. It is false exactly where it waited for nothing, and then nothing changes.
+    pub fn leave(&mut self, tid: Tid) -> bool
+        ensures waited { result ≡ is_some (wait_of tid self.old.waits) }
+        ensures after { self.new ≡ record self.old { waits = others tid self.old.waits } }
+        ensures stays { result ≡ false → self.new ≡ self.old }
+        ensures less { length self.new.waits ≤ length self.old.waits }
+    {
+        leave(&mut self.items, tid)
     }
 
     /// The first that waits for this waits no more.
@@ -215,6 +233,19 @@ fn waiter(waits: &[LockWaiter], tid: Tid) -> Option<&LockWaiter>
     ensures { option_copied result ≡ find (λ w. w.tid == tid) waits.now }
 {
     waits.iter().find(|w| w.tid == tid)
+}
+
+/// This thread waits no more. Whether it waited.
+fn leave(waits: &mut Vec<LockWaiter>, tid: Tid) -> bool
+    ensures waited { result ≡ is_some (wait_of tid waits.old.items) }
+    ensures waits { waits.new.items ≡ others tid waits.old.items }
+    ensures stays { result ≡ false → waits.new.items ≡ waits.old.items }
+    ensures less { vec_len waits.new ≤ vec_len waits.old }
+    ensures capacity { vec_capacity waits.new ≡ vec_capacity waits.old }
+{
+    let waited = waiter(waits, tid).is_some();
+    waits.retain(|w| w.tid != tid);
+    waited
 }
 
 /// The first that waits for this waits no more.
