@@ -1,0 +1,15 @@
+pub mod Callers
+pub mod Counting
+pub mod Granting
+pub mod Grants
+pub mod Holders
+pub mod Meeting
+pub mod Moved
+pub mod MovedAside
+pub mod Others
+pub mod Served
+pub mod Sleeping
+pub mod Standing
+pub mod Waits
+pub mod Waking
+pub mod Woken

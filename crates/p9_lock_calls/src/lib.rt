@@ -1,9 +1,18 @@
-//! The requests on locks: so far those on Refs. lock(2).
+//! The requests on locks, Rendezes, Refs and tags, over the parts of the machine that they touch. lock(2), rendezvous(2).
 //!
-//! [`call`] serves a request over the locks alone.
+//! [`reserve`] takes the memory that a request needs, and [`call`] serves it, over the threads and the locks.
 #![tactic(auto)]
 
+mod asks;
+mod attempts;
 mod calls;
+mod claims;
+mod meet;
+mod memory;
 mod refs;
+mod rendez;
+mod unlocks;
+mod wakes;
 
 pub use calls::call;
+pub use memory::{Spare, reserve};
