@@ -31,6 +31,7 @@ use Rattle.p9_chan_calls.proofs.Alike.{shown_chans, alike_fits}
 use Rattle.p9_chan_calls.proofs.Drawn.{drawn_by, draws_alike}
 use Rattle.p9_chan_calls.proofs.Frames.{both_move, same_by}
 use Rattle.p9_chan_calls.proofs.InCalls.{calls_without, calls_push}
+use Rattle.p9_chan_calls.proofs.InLocks.{held_stays, locks_by_calls, woken_last}
 use Rattle.p9_chan_calls.proofs.OnChannels.{serves_now}
 use Rattle.p9_chan_calls.proofs.Parties.{parties_wait, parties_without_tid, WokenStands, woken_in, woken_stands}
 use Rattle.p9_chan_calls.proofs.Verdicts.{over, VerdictsAlike, alike_verdict}
@@ -90,21 +91,21 @@ pub record ComesTo (o : Outcome) (n : State) : Type 0 where
   pub reply : o.reply ≡ Waits
   pub state : o.state ≡ n
 
-woken_state : (o : Option (ℕ × Answer)) (chans : List Channel) (s : State) → with_woken o (record s { chans = chans }) ≡ all_readied (pair_in (wake_with o)) (record s { waits = left_by o s.waits; chans = chans })
-woken_state None chans s = refl
-woken_state (Some w) chans s = refl
+woken_state : (o : Option (ℕ × Answer)) (chans : List Channel) (s : State) → WaitsOnce s.waits → WokenStands o (parties s.waits) → with_woken o (record s { chans = chans }) ≡ all_readied (pair_in (wake_with o)) (record s { waits = left_by o s.waits; chans = chans })
+woken_state None chans s once k = refl
+woken_state (Some w) chans s once k = woken_last w.0 w.1 (record s { chans = chans }) (once w.0) k
 
-decided_over : (t : ℕ) (request : Request) (v : Verdict) (chans : List Channel) (s : State) → chans ≡ chans_after (over chans v) s.chans → ComesTo (decided t request s (over chans v)) (told_state t request v chans s)
-decided_over t request (Commits d) chans s e =
-    record { reply = refl; state = ap (λ (x : State). told t (offer_of (Commits d)) x) (woken_state d.woken chans s) }
-decided_over t request AllClosed chans s e = rw e (record { reply = refl; state = refl })
-decided_over t request NoneReady chans s e = rw e (record { reply = refl; state = refl })
-decided_over t request MustWait chans s e = rw e (record { reply = refl; state = refl })
+decided_over : (t : ℕ) (request : Request) (v : Verdict) (chans : List Channel) (s : State) → WaitsOnce s.waits → WokenStands (woken_in v) (parties s.waits) → chans ≡ chans_after (over chans v) s.chans → ComesTo (decided t request s (over chans v)) (told_state t request v chans s)
+decided_over t request (Commits d) chans s once k e =
+    record { reply = refl; state = ap (λ (x : State). told t (offer_of (Commits d)) x) (woken_state d.woken chans s once k) }
+decided_over t request AllClosed chans s once k e = rw e (record { reply = refl; state = refl })
+decided_over t request NoneReady chans s once k e = rw e (record { reply = refl; state = refl })
+decided_over t request MustWait chans s once k e = rw e (record { reply = refl; state = refl })
 
 -- what a verdict comes to
-decided_by : (t : ℕ) (request : Request) (v w : Verdict) (s : State) → w ≡ over (chans_after w s.chans) v → ComesTo (decided t request s w) (told_state t request v (chans_after w s.chans) s)
-decided_by t request v w s e =
-    subst (λ (x : Verdict). ComesTo (decided t request s x) (told_state t request v (chans_after w s.chans) s)) (sym e) (decided_over t request v (chans_after w s.chans) s (ap (λ (x : Verdict). chans_after x s.chans) e))
+decided_by : (t : ℕ) (request : Request) (v w : Verdict) (s : State) → WaitsOnce s.waits → WokenStands (woken_in v) (parties s.waits) → w ≡ over (chans_after w s.chans) v → ComesTo (decided t request s w) (told_state t request v (chans_after w s.chans) s)
+decided_by t request v w s once k e =
+    subst (λ (x : Verdict). ComesTo (decided t request s x) (told_state t request v (chans_after w s.chans) s)) (sym e) (decided_over t request v (chans_after w s.chans) s once k (ap (λ (x : Verdict). chans_after x s.chans) e))
 
 -- the verdict of the parts
 abbrev pub own_verdict : ℕ → Exchange → ℕ → ℕ → Alternation → Verdict
@@ -151,10 +152,14 @@ module _ (setup : Setup) (first : Schedule) (old new : Exchange) (before after :
   abbrev middle : State
   middle = dealt_state t request own (chans_after right s.chans) (with_draw a.entries s)
 
+  -- who is woken waits in an alt
+  stand : WokenStands (woken_in own) (parties s.waits)
+  stand = subst (λ (ps : List Party). WokenStands (woken_in own) ps) p.channels.waits (woken_stands draw (party t s.position a) a.ending old.channels.chans old.waits)
+
   -- what the alt comes to
-  comes_to : ComesTo (alt setup t request a s) (told t (offer_of own) (all_readied (pair_in (wake_of own)) middle))
-  comes_to =
-      fits_if (fits s.chans a.entries) _ s _ (sym (alike_fits old.channels.chans s.chans a.entries p.channels.chans) ∙ k.fit) (decided_by t request own right (with_draw a.entries s) agree.is)
+  comes_to : WaitsOnce s.waits → ComesTo (alt setup t request a s) (told t (offer_of own) (all_readied (pair_in (wake_of own)) middle))
+  comes_to once =
+      fits_if (fits s.chans a.entries) _ s _ (sym (alike_fits old.channels.chans s.chans a.entries p.channels.chans) ∙ k.fit) (decided_by t request own right (with_draw a.entries s) once stand agree.is)
 
   middle_alts : AltsFor new middle
   middle_alts = record {
@@ -175,19 +180,22 @@ module _ (setup : Setup) (first : Schedule) (old new : Exchange) (before after :
   alt_serves second third once wakes tells =
       let n = told t (offer_of own) (all_readied (pair_in (wake_of own)) middle) in
       let moves = both_move t (offer_of own) (pair_in (wake_of own)) middle in
-      let start : SchedFor setup.places first middle = record { threads = p.threads.threads; lines = p.threads.lines; procs = p.threads.procs; opened = p.threads.opened; count = p.threads.count } in
+      let me : Waiter = record { tid = t; request = request; at = s.position } in
+      let calls = waits_calls own me a s.waits e once stand in
+      let after_waits = waits_by own me s.waits in
+      let h = held_stays setup.places first s after_waits (locks_by_calls after_waits s.waits calls) p.threads in
+      let start : SchedFor setup.places first middle = record { threads = h.threads; lines = h.lines; procs = h.procs; opened = h.opened; count = h.count; held = record { held = h.held.held } } in
+      let comes = comes_to once in
       let w = subst (λ (x : Option Wake). Tracks (all_readied (pair_in x)) first second) k.wakes wakes in
       let l = subst (λ (x : Offer). Tracks (told t x) second third) k.tells tells in
-      let stand = subst (λ (ps : List Party). WokenStands (woken_in own) ps) p.channels.waits (woken_stands draw (party t s.position a) a.ending old.channels.chans old.waits) in
-      let calls = waits_calls own (record { tid = t; request = request; at = s.position }) a s.waits e once stand in
       record {
-        reply_is = sym comes_to.reply;
-        parts = subst (λ (x : State). PartsFor setup third new after x) (sym comes_to.state) (record {
+        reply_is = sym comes.reply;
+        parts = subst (λ (x : State). PartsFor setup third new after x) (sym comes.state) (record {
           threads = l setup.places (all_readied (pair_in (wake_of own)) middle) (w setup.places middle start);
           channels = subst (λ (x : State). AltsFor new x) (sym moves) (record { waits = middle_alts.waits; chans = middle_alts.chans });
           drawn = middle_drawn ∙ ap (λ (x : State). generator_after setup.start x.draws) (sym moves);
         });
-        leaves = subst (λ (x : State). Leaves s x) (sym comes_to.state) (record {
+        leaves = subst (λ (x : State). Leaves s x) (sym comes.state) (record {
           same = same_by s n _ _ _ _ _ moves;
           calls = ap (λ (x : State). filter is_in_call x.waits) moves ∙ calls;
         });

@@ -26,9 +26,10 @@ use Rattle.p9_chan_calls.specs.Serves.{Serves, Leaves, is_in_call}
 use Rattle.p9_sched.specs.Stands.{SchedFor, Tracks}
 use Rattle.p9_chan_calls.specs.Wakes.{pairs_of, all_readied, AreWaiting, IsFailure}
 use Rattle.p9_chan_calls.proofs.Alike.{alike_close}
-use Rattle.p9_chan_calls.proofs.Closing.{all_left, WaitOnce, woken_readied, failed_counts, closed_parties}
+use Rattle.p9_chan_calls.proofs.Closing.{all_left, WaitOnce, failed_counts, closed_parties}
 use Rattle.p9_chan_calls.proofs.Frames.{all_readied_moves, same_by}
 use Rattle.p9_chan_calls.proofs.InCalls.{WaitIn, calls_left}
+use Rattle.p9_chan_calls.proofs.InLocks.{held_stays, locks_by_calls, woken_readied}
 use Rattle.p9_chan_calls.proofs.Offering.{counted}
 use Rattle.p9_chan_calls.proofs.OnChannels.{none_there, some_there, serves_now}
 use Rattle.p9_chan_calls.proofs.Parties.{is_tid, times_parties}
@@ -116,8 +117,11 @@ module _ (setup : Setup) (at : ℕ) (sched : Schedule) (old : Exchange) (generat
       let n = all_readied ws closed_state in
       let moves = all_readied_moves ws closed_state in
       let p = h.parts in
-      let start : SchedFor setup.places sched closed_state = record { threads = p.threads.threads; lines = p.threads.lines; procs = p.threads.procs; opened = p.threads.opened; count = p.threads.count } in
-      let is : (close_channel c s).state ≡ n = woken_readied ws (record s { chans = changed closed_chan s.chans (c - 1) }) in
+      let left = all_left ws s.waits in
+      let calls = calls_left ws s.waits all_wait_in in
+      let k = held_stays setup.places sched s left (locks_by_calls left s.waits calls) p.threads in
+      let start : SchedFor setup.places sched closed_state = record { threads = k.threads; lines = k.lines; procs = k.procs; opened = k.opened; count = k.count; held = record { held = k.held.held } } in
+      let is : (close_channel c s).state ≡ n = woken_readied ws (record s { chans = changed closed_chan s.chans (c - 1) }) all_wait_in in
       record {
         reply_is = refl;
         parts = subst (λ (x : State). PartsFor setup woken (closed_on c old) generator x) (sym is) (record {
@@ -127,7 +131,7 @@ module _ (setup : Setup) (at : ℕ) (sched : Schedule) (old : Exchange) (generat
         });
         leaves = subst (λ (x : State). Leaves s x) (sym is) (record {
           same = same_by s n _ _ _ _ _ moves;
-          calls = ap (λ (x : State). filter is_in_call x.waits) moves ∙ calls_left ws s.waits all_wait_in;
+          calls = ap (λ (x : State). filter is_in_call x.waits) moves ∙ calls;
         });
         entry = refl;
       }

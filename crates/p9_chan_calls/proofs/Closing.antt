@@ -1,4 +1,4 @@
--- What becomes of the waits and the line where a channel is closed: each thread that waits on it is woken once.
+-- What becomes of the waits where a channel is closed: each thread that waits on it is woken once.
 use Rattle.std.proofs.Common.{◌≡◌, ℕ, ◌+◌, ◌≤◌, Bool, true, false, not, cond, List, [], ◌∷◌, map, refl, ap, sym, ◌∙◌, arith, rules, tests}
 use Rattle.std.specs.Prelude.{◌==◌}
 use Rattle.std.specs.List.{filter}
@@ -7,10 +7,9 @@ use Rattle.p9_manual.specs.declared.state.Waiter.{Waiter}
 use Rattle.p9_manual.specs.declared.state.Party.{Party}
 use Rattle.p9_manual.specs.Offers.{parties}
 use Rattle.p9_manual.specs.AltEntries.{waits_on}
-use Rattle.p9_manual.specs.Close.{failed_on, all_failed, all_woken}
-use Rattle.p9_manual.specs.State.{State, readied, waits_without}
+use Rattle.p9_manual.specs.Close.{failed_on, all_failed}
+use Rattle.p9_manual.specs.State.{waits_without}
 use Rattle.p9_manual.specs.Standing.{times}
-use Rattle.p9_chan_calls.specs.Wakes.{all_readied}
 use Rattle.p9_chan_calls.proofs.Parties.{is_tid, parties_without_tid}
 use Rattle.p9_chan_calls.proofs.Others.{CasesEq, Same, Other, cases_eq, eq_other}
 
@@ -22,19 +21,6 @@ all_left (w ∷ ws) waits = all_left ws (waits_without w.0 waits)
 -- which threads they are
 abbrev pub tids_of : List (ℕ × Answer) → List ℕ
 tids_of ws = map (λ w. w.0) ws
-
-readied_waits : (ws : List (ℕ × Answer)) (s : State) (waits : List Waiter) → all_readied ws (record s { waits = waits }) ≡ record (all_readied ws s) { waits = waits }
-readied_waits [] s waits = refl
-readied_waits (w ∷ ws) s waits = readied_waits ws (readied w.0 w.1 s) waits
-
-woken_parts : (ws : List (ℕ × Answer)) (s : State) → all_woken ws s ≡ record (all_readied ws s) { waits = all_left ws s.waits }
-woken_parts [] s = refl
-woken_parts (w ∷ ws) s =
-    woken_parts ws (record (readied w.0 w.1 s) { waits = waits_without w.0 s.waits }) ∙ ap (λ (r : State). record r { waits = all_left ws (waits_without w.0 s.waits) }) (readied_waits ws (readied w.0 w.1 s) (waits_without w.0 s.waits))
-
--- who is woken leaves the waits, and is ready
-pub woken_readied : (ws : List (ℕ × Answer)) (s : State) → all_woken ws s ≡ all_readied ws (record s { waits = all_left ws s.waits })
-woken_readied ws s = woken_parts ws s ∙ sym (readied_waits ws s (all_left ws s.waits))
 
 -- the parties without those of these threads
 abbrev out : List ℕ → List Party → List Party

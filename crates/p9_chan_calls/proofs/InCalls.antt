@@ -1,4 +1,4 @@
--- The waits in calls of ioprocs stay where threads that wait in alts are woken.
+-- The waits at locks and in calls of ioprocs stay where threads that wait in alts are woken.
 use Rattle.std.proofs.Common.{◌≡◌, ℕ, ◌+◌, ◌≤◌, Bool, true, false, not, cond, List, [], ◌∷◌, ◌++◌, Option, Some, None, refl, ap, sym, ◌∙◌, subst, arith, append-nil}
 use Rattle.std.specs.Prelude.{◌==◌, is_none}
 use Rattle.std.specs.List.{filter}
@@ -91,7 +91,7 @@ rest_wait w ws waits h = record {
   stand = λ t. rest_stand w ws waits h t (cases_eq w.0 t);
 }
 
-first_stands : (w : ℕ × Answer) (ws : List (ℕ × Answer)) (waits : List Waiter) → WaitIn (w ∷ ws) waits → 1 ≤ times (is_tid w.0) (parties waits)
+pub first_stands : (w : ℕ × Answer) (ws : List (ℕ × Answer)) (waits : List Waiter) → WaitIn (w ∷ ws) waits → 1 ≤ times (is_tid w.0) (parties waits)
 first_stands w ws waits h =
     let n : cond {A = ℕ} (w.0 == w.0) 1 0 ≡ 1 = ap (λ (b : Bool). cond {A = ℕ} b 1 0) (eq_same w.0) in
     let le : cond (w.0 == w.0) 1 0 + times (λ x. x.0 == w.0) ws ≤ times (is_tid w.0) (parties waits) = h.stand w.0 in

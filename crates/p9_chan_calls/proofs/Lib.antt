@@ -6,6 +6,7 @@ pub mod Closing
 pub mod Drawn
 pub mod Frames
 pub mod InCalls
+pub mod InLocks
 pub mod Offering
 pub mod OnChannels
 pub mod Others

@@ -21,7 +21,7 @@ use Rattle.p9_alt.specs.Exchange.{Exchange}
 use Rattle.p9_sched.specs.Schedule.{Schedule}
 use Rattle.p9_chan_calls.specs.For.{PartsFor, IsAt}
 
--- a wait that is in no alt: it is in a call of an ioproc
+-- a wait that is in no alt: it is at a lock, at a Rendez or with a tag, or in a call of an ioproc
 abbrev pub is_in_call : Waiter → Bool
 is_in_call w = is_none (alternation_of w.request)
 

@@ -3,7 +3,7 @@ use Rattle.std.proofs.Common.{◌≡◌, ◌≢◌, ℕ, zero, suc, ◌+◌, ◌
 use Rattle.std.specs.Prelude.{◌==◌, if◌then◌else◌}
 use Rattle.std.specs.List.{filter}
 use Rattle.p9_word.specs.declared.request.Request.{Request}
-use Rattle.p9_word.specs.declared.request.Request.TheVariants.{Chan as ChanRequest, Io as IoRequest}
+use Rattle.p9_word.specs.declared.request.Request.TheVariants.{Thread as ThreadRequest, Chan as ChanRequest, Lock as LockRequest, Io as IoRequest}
 use Rattle.p9_word.specs.declared.request.IoReq.TheVariants.{IoRun}
 use Rattle.p9_word.specs.declared.io_call.IoCall.{IoCall}
 use Rattle.p9_word.specs.declared.setup.Setup.{Setup}
@@ -12,7 +12,9 @@ use Rattle.p9_manual.specs.declared.state.Place.TheVariants as stand
 use Rattle.p9_manual.specs.declared.state.Thread.{Thread}
 use Rattle.p9_manual.specs.declared.state.Waiter.{Waiter}
 use Rattle.p9_manual.specs.declared.state.Party.{Party}
+use Rattle.p9_manual.specs.declared.locks.LockWaiter.{LockWaiter}
 use Rattle.p9_manual.specs.declared.state.Ioproc.TheVariants.{Begun}
+use Rattle.p9_manual.specs.LockWaits.{lock_wait_of, lock_waiter_of, lock_waiters}
 use Rattle.p9_manual.specs.Offers.{alternation_of, party_of, parties}
 use Rattle.p9_manual.specs.State.{State, by_id, waits_without}
 use Rattle.p9_manual.specs.Standing.{times, times_in_waits, place_in, place_of as stand_of}
@@ -74,18 +76,36 @@ calls_counted : (k t : ℕ) (call : IoCall) → (waits : List Waiter) → waitin
 calls_counted k t call [] e = absurd (cc e)
 calls_counted k t call (w ∷ ws) e = call_counts k w.tid w.request (waiting_calls k ws) t call (times (λ x. x.tid == t) ws) e (calls_counted k t call ws)
 
--- a wait of another thread stays, with its alt
-kept_on : (t : ℕ) (w : Waiter) (ws : List Waiter) → (w.tid == t) ≡ false → parties (waits_without t ws) ≡ parties ws → parties (waits_without t (w ∷ ws)) ≡ parties (w ∷ ws)
-kept_on t w ws e same = rw e (ap (λ (ps : List Party). party_of w ++ ps) same)
+-- without the waits of thread t the same threads wait in alts, and at locks, at Rendezes and with tags
+pub record StaysWithout (t : ℕ) (waits : List Waiter) : Type 0 where
+  pub alts : parties (waits_without t waits) ≡ parties waits
+  pub locks : lock_waiters (waits_without t waits) ≡ lock_waiters waits
 
--- a wait in a call has no alt, so it may go
-call_goes : (t : ℕ) (w : Waiter) (ws : List Waiter) → (w.tid == t) ≡ true → times (λ x. x.tid == t) ws ≡ 0 → alternation_of w.request ≡ None → parties (waits_without t (w ∷ ws)) ≡ parties (w ∷ ws)
-call_goes t w ws e none no_alt = rw (e, none_out (λ x. x.tid == t) ws none, no_alt) refl
+-- a wait in this request is in no alt, and at no lock
+record IsNeither (request : Request) : Type 0 where
+  pub alt : alternation_of request ≡ None
+  pub lock : lock_wait_of request ≡ None
+
+-- a wait of another thread stays, with its alt or at its lock
+kept_on : (t : ℕ) (w : Waiter) (ws : List Waiter) → (w.tid == t) ≡ false → StaysWithout t ws → StaysWithout t (w ∷ ws)
+kept_on t w ws e same = record {
+  alts = rw e (ap (λ (ps : List Party). party_of w ++ ps) same.alts);
+  locks = rw e (ap (λ (ls : List LockWaiter). lock_waiter_of w ++ ls) same.locks);
+}
+
+-- a wait in a call is neither, so it may go
+call_goes : (t : ℕ) (w : Waiter) (ws : List Waiter) → (w.tid == t) ≡ true → times (λ x. x.tid == t) ws ≡ 0 → IsNeither w.request → StaysWithout t (w ∷ ws)
+call_goes t w ws e none neither = record {
+  alts = rw (e, none_out (λ x. x.tid == t) ws none, neither.alt) refl;
+  locks = rw (e, none_out (λ x. x.tid == t) ws none, neither.lock) refl;
+}
 
 -- the first wait of the only thread that waits in a call at an ioproc is that call
-first_in_call : (k u at : ℕ) (q : Request) (ws : List Waiter) (t : ℕ) (call : IoCall) → call_in k u q ++ waiting_calls k ws ≡ (t, call) ∷ [] → times (λ x. x.tid == t) ws ≡ 0 → alternation_of q ≡ None
+first_in_call : (k u at : ℕ) (q : Request) (ws : List Waiter) (t : ℕ) (call : IoCall) → call_in k u q ++ waiting_calls k ws ≡ (t, call) ∷ [] → times (λ x. x.tid == t) ws ≡ 0 → IsNeither q
 first_in_call k u at (ChanRequest r) ws t call e none = let n = calls_counted k t call ws e in absurd (omega arith)
-first_in_call k u at q ws t call e none = refl
+first_in_call k u at (LockRequest r) ws t call e none = let n = calls_counted k t call ws e in absurd (omega arith)
+first_in_call k u at (ThreadRequest r) ws t call e none = record { alt = refl; lock = refl }
+first_in_call k u at (IoRequest r) ws t call e none = record { alt = refl; lock = refl }
 
 -- where another thread's wait comes first, the call is behind it
 other_if : (b : Bool) (u : ℕ) (own : IoCall) (rest : List (ℕ × IoCall)) (t : ℕ) (call : IoCall) → (u ≡ t → ⊥) → (if b then (u, own) ∷ [] else []) ++ rest ≡ (t, call) ∷ [] → rest ≡ (t, call) ∷ []
@@ -96,8 +116,8 @@ other_first : (k u : ℕ) (q : Request) (rest : List (ℕ × IoCall)) (t : ℕ) 
 other_first k u (IoRequest (IoRun j own)) rest t call ne e = other_if (j == k) u own rest t call ne e
 other_first k u q rest t call ne e = e
 
--- a thread that stands in the waits once, in a call, has no alt there
-in_call_by : (k t : ℕ) (call : IoCall) (w : Waiter) (ws : List Waiter) → waiting_calls k (w ∷ ws) ≡ (t, call) ∷ [] → times (λ x. x.tid == t) (w ∷ ws) ≤ 1 → (waiting_calls k ws ≡ (t, call) ∷ [] → times (λ x. x.tid == t) ws ≤ 1 → parties (waits_without t ws) ≡ parties ws) → CasesEq w.tid t → parties (waits_without t (w ∷ ws)) ≡ parties (w ∷ ws)
+-- a thread that stands in the waits once, in a call, has no alt there, and waits at no lock
+in_call_by : (k t : ℕ) (call : IoCall) (w : Waiter) (ws : List Waiter) → waiting_calls k (w ∷ ws) ≡ (t, call) ∷ [] → times (λ x. x.tid == t) (w ∷ ws) ≤ 1 → (waiting_calls k ws ≡ (t, call) ∷ [] → times (λ x. x.tid == t) ws ≤ 1 → StaysWithout t ws) → CasesEq w.tid t → StaysWithout t (w ∷ ws)
 in_call_by k t call w ws e le more (Same same) =
     let here : (w.tid == t) ≡ true = rw same (eq_same t) in
     let one : cond {A = ℕ} (w.tid == t) 1 0 ≡ 1 = rw here refl in
@@ -107,8 +127,8 @@ in_call_by k t call w ws e le more (Other ne) =
     let off : (w.tid == t) ≡ false = eq_other w.tid t ne in
     kept_on t w ws off (more (other_first k w.tid w.request (waiting_calls k ws) t call ne e) (omega arith))
 
-in_call : (k t : ℕ) (call : IoCall) → (waits : List Waiter) → waiting_calls k waits ≡ (t, call) ∷ [] → times (λ x. x.tid == t) waits ≤ 1 → parties (waits_without t waits) ≡ parties waits
-in_call k t call [] e le = refl
+in_call : (k t : ℕ) (call : IoCall) → (waits : List Waiter) → waiting_calls k waits ≡ (t, call) ∷ [] → times (λ x. x.tid == t) waits ≤ 1 → StaysWithout t waits
+in_call k t call [] e le = record { alts = refl; locks = refl }
 in_call k t call (w ∷ ws) e le = in_call_by k t call w ws e le (in_call k t call ws) (cases_eq w.tid t)
 
 waits_from : (pl : Stand) → 1 ≤ times_in_waits pl → pl ≡ stand.Waiting
@@ -138,8 +158,8 @@ caller_waits setup s k (Some t) call sound e =
     let i : times (λ w. w.tid == t) s.waits ≡ times_in_waits (stand_of s.threads t) = sound.stand.in_waits t in
     told_waiting (by_id s.threads t) (waits_from (stand_of s.threads t) (omega arith))
 
--- and it has no alt
-pub caller_in_call : (setup : Setup) (s : State) (k t : ℕ) (call : IoCall) → IsSound setup s → by_id s.ioprocs k ≡ Some (Begun (Some t) call) → parties (waits_without t s.waits) ≡ parties s.waits
+-- and it has no alt, and waits at no lock
+pub caller_in_call : (setup : Setup) (s : State) (k t : ℕ) (call : IoCall) → IsSound setup s → by_id s.ioprocs k ≡ Some (Begun (Some t) call) → StaysWithout t s.waits
 caller_in_call setup s k t call sound e =
     let here : waiting_calls k s.waits ≡ (t, call) ∷ [] = sound.calls.calls k ∙ ap call_of e in
     let i : times (λ w. w.tid == t) s.waits ≡ times_in_waits (stand_of s.threads t) = sound.stand.in_waits t in

@@ -7,9 +7,10 @@ use Rattle.p9_word.specs.declared.setup.Setup.{Setup}
 use Rattle.p9_word.specs.declared.trail.Reply.{Reply}
 use Rattle.p9_word.specs.declared.trail.Reply.TheVariants.{Now, Waits, Ended, Begin, Turn, Idle, Over, Stuck, Stray, Took, Noted}
 use Rattle.p9_manual.specs.declared.state.Thread.{Thread}
+use Rattle.p9_manual.specs.LockWaits.{lock_waiters}
 use Rattle.p9_manual.specs.Offers.{parties}
 use Rattle.p9_manual.specs.Sound.{IsSound}
-use Rattle.p9_manual.specs.State.{State, Outcome, by_id, changed, wake}
+use Rattle.p9_manual.specs.State.{State, Outcome, by_id, changed, readied}
 use Rattle.p9_sched.specs.Schedule.{Schedule}
 use Rattle.p9_sched.specs.Stands.{SchedFor}
 use Rattle.p9_sched.specs.Turns.{place_of}
@@ -36,6 +37,8 @@ pub record Serves (setup : Setup) (s : State) (o : Outcome) (reply : Reply) (sch
   pub others : o.state ≡ record s { threads = o.state.threads; line = o.state.line; waits = o.state.waits; ioprocs = o.state.ioprocs }
   -- and so do the threads that wait in alts
   pub alts : parties o.state.waits ≡ parties s.waits
+  -- and those that wait at locks, at Rendezes and with tags
+  pub locks : lock_waiters o.state.waits ≡ lock_waiters s.waits
 
 -- the same for what changes nothing but the ioprocs
 pub record ServesAlone (s : State) (o : Outcome) (reply : Reply) (desks : Desks) : Type 0 where
@@ -62,7 +65,7 @@ abbrev pub IsWaiting : Option ℕ → List Thread → Type 0
 IsWaiting None threads = Unit {0}
 IsWaiting (Some t) threads = place_of (by_id threads t) ≡ place.Waiting
 
--- it is woken with this answer
+-- it is ready with this answer
 abbrev pub with_answer : Option ℕ → IoAnswer → State → State
 with_answer None answer s = s
-with_answer (Some t) answer s = wake t (IoAnswered answer) s
+with_answer (Some t) answer s = readied t (IoAnswered answer) s

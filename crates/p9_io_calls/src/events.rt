@@ -59,7 +59,7 @@ pub fn take(sched: &Sched, io: &mut IoBoard, k: u32, over: bool, spare: Spare) -
     }
 }
 
-/// Wakes the thread that waits for a call, if there is one, with its answer.
+/// Makes the thread that waits for a call ready with its answer, if there is one.
 fn answer_caller(sched: &mut Sched, finished: Finished)
     requires { IsWaiting finished.caller sched.old.threads }
     ensures { Tracks (with_answer finished.caller finished.answer) sched.old sched.new }

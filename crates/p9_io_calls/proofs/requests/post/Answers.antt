@@ -1,4 +1,4 @@
-use Rattle.std.proofs.Common.{◌≡◌, Some, false, rules, tests}
+use Rattle.std.proofs.Common.{◌≡◌, Some, false, refl, rules, tests}
 use Rattle.std.specs.Prelude.{nat_lt}
 use Rattle.p9_word.specs.declared.request.Request.TheVariants.{Io as IoRequest}
 use Rattle.p9_word.specs.declared.request.IoReq.TheVariants.{IoRun}
@@ -15,5 +15,5 @@ returns-else-message_len-gt4294967295-clause-served c = λ setup s h.
     let short : nat_lt 4294967295 (message_length c.args.call) ≡ false = search (rules, tests) in
     let n = with_ioproc c.args.k (Posted c.args.t c.args.call) s in
     serves_posted setup s c.args.t c.args.k c.args.call c.wait.new.self c.post.new.self found short
-    (c.wait.ensures.stands (IoRequest (IoRun c.args.k c.args.call)) setup.places n (sched_io _ _ s _ h.threads))
+    (c.wait.ensures.stands (IoRequest (IoRun c.args.k c.args.call)) (λ t at. refl) setup.places n (sched_io _ _ s _ h.threads))
     (c.post.ensures.stands s h.ioprocs)
