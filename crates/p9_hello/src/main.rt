@@ -6,7 +6,6 @@
 #![tactic(auto)]
 
 ghost use Rattle.p9_word.specs.Setup.{IsValid};
-ghost use Rattle.p9_machine.specs.Plain.{IsPlain};
 
 mod in_words;
 mod setup;
@@ -65,8 +64,7 @@ fn run_threads(alloc: Global, machine: &mut Machine) -> Result<(), NoMemory> {
 
 /// A whole run from this setup: all that happened.
 fn run(alloc: Global, setup: &Setup) -> Result<Trail, NoMemory>
-    requires valid { IsValid setup.now }
-    requires plain { IsPlain setup.now }
+    requires { IsValid setup.now }
 {
     let mut machine = Machine::new(alloc, setup)?;
     run_threads(alloc, &mut machine)?;

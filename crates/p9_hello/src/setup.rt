@@ -1,6 +1,5 @@
 ghost use Rattle.std.specs.Prelude.{◌≡◌, length, All, IfOk};
 ghost use Rattle.p9_word.specs.Setup.{IsBetween, IsThreadOf, IsChan, IsValid};
-ghost use Rattle.p9_machine.specs.Plain.{IsPlain};
 
 use crate::threads::{RECEIVES, SENDS};
 use p9_word::{ChanSetup, Msg, NoMemory, Room, Seq, Setup, ThreadSetup};
@@ -44,8 +43,7 @@ fn channels(alloc: Global) -> Result<Seq<ChanSetup>, NoMemory>
 
 /// What the run starts from: one proc with the two threads, and the channel. There are no locks and no files.
 pub(crate) fn hello_setup(alloc: Global) -> Result<Setup, NoMemory>
-    ensures valid { IfOk result IsValid }
-    ensures plain { IfOk result IsPlain }
+    ensures { IfOk result IsValid }
 {
     Ok(Setup {
         places: 1,

@@ -1,6 +1,5 @@
 ghost use Rattle.std.specs.Prelude.{◌≡◌};
 ghost use Rattle.p9_word.specs.Setup.{IsValid};
-ghost use Rattle.p9_machine.specs.Plain.{IsPlain};
 ghost use Rattle.p9_machine.specs.Shown.{is_told};
 
 use crate::fault::{Failure, Fault};
@@ -135,8 +134,7 @@ fn plays_from(
     first: Row<'_>,
     rows: &[Row],
 ) -> Result<(), Failure>
-    requires valid { IsValid setup.now }
-    requires plain { IsPlain setup.now }
+    requires { IsValid setup.now }
 {
     match Machine::new(alloc, setup) {
         Ok(mut machine) => {
@@ -156,9 +154,7 @@ fn plays_if_valid(
     setup: &Setup,
     first: Row<'_>,
     rows: &[Row],
-) -> Result<(), Failure>
-    requires { IsPlain setup.now }
-{
+) -> Result<(), Failure> {
     if setup.is_valid() {
         return plays_from(rt, alloc, setup, first, rows);
     }

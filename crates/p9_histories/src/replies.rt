@@ -41,6 +41,7 @@ fn answer_text(alloc: Global, answer: &Answer) -> Result<String, AllocError> {
         Answer::Number(n) => format!(in alloc; "number {n}"),
         Answer::Minus => String::from_str(alloc, "minus"),
         Answer::Text(text) => after(alloc, "text", quoted(alloc, text)?),
+        Answer::Met(value) => format!(in alloc; "met {value}"),
         Answer::Io(answer) => after(alloc, "io", io_text(alloc, answer)?),
         Answer::Bad => String::from_str(alloc, "bad"),
     }

@@ -1,13 +1,10 @@
-ghost use Rattle.std.specs.Prelude.{IfOk};
-ghost use Rattle.p9_machine.specs.Plain.{IsPlain};
-
 use crate::fault::Fault;
 use crate::words::Words;
-use p9_word::limits::{MOST_CHANNELS, MOST_REFS, MOST_THREADS};
+use p9_word::limits::{MOST_CHANNELS, MOST_REFS, MOST_RENDEZES, MOST_THREADS};
 use p9_word::{ChanSetup, Msg, NoMemory, Room, Seq, Setup, ThreadSetup};
 use std::alloc::Global;
 
-/// What a first line says, beside its threads and channels, and how many threads it asks for.
+/// What a first line says, beside its threads, channels, Rendezes and Refs.
 #[derive(Clone, Copy)]
 struct Sizes {
     places: u32,
@@ -16,20 +13,35 @@ struct Sizes {
     programs: u32,
     files: u32,
     start: u32,
+    locks: u32,
+    qlocks: u32,
+    rwlocks: u32,
 }
 
 /// What a history starts from, by its first line: `history` and a name, and then those of these that are other
-/// than here, in this order: `places 1`, `opened 1`, `threads 1`, `programs 4`, `files 0`, `start 42`, for each
-/// channel `chan` with its capacity and the size of an element, and for each Ref `ref` with its value.
-pub(crate) fn read_setup(alloc: Global, text: &str) -> Result<Setup, Fault>
-    ensures { IfOk result IsPlain }
-{
+/// than here, in this order: `places 1`, `opened 1`, `threads 1`, `programs 4`, `files 0`, `start 42`, `locks 0`,
+/// `qlocks 0`, `rwlocks 0`, for each channel `chan` with its capacity and the size of an element, for each Rendez
+/// `rendez` with its QLock, and for each Ref `ref` with its value.
+pub(crate) fn read_setup(alloc: Global, text: &str) -> Result<Setup, Fault> {
     let mut words = Words::new(text);
     let sizes = read_sizes(&mut words)?;
-    let chans = channels(alloc, &mut words)?;
-    let refs = last_refs(alloc, &mut words)?;
-    let threads = threads(alloc, sizes.threads)?;
-    Ok(setup_of(alloc, sizes, threads, chans, refs))
+    let setup = Setup {
+        places: sizes.places,
+        opened: sizes.opened,
+        threads: threads(alloc, sizes.threads)?,
+        programs: sizes.programs,
+        chans: channels(alloc, &mut words)?,
+        locks: sizes.locks,
+        qlocks: sizes.qlocks,
+        rwlocks: sizes.rwlocks,
+        rendezes: rendezes(alloc, &mut words)?,
+        refs: refs(alloc, &mut words)?,
+        files: sizes.files,
+        procs: 0,
+        start: sizes.start as u64,
+    };
+    words.ends()?;
+    Ok(setup)
 }
 
 /// The words of a first line up to its channels.
@@ -43,34 +55,10 @@ fn read_sizes(words: &mut Words) -> Result<Sizes, Fault> {
         programs: words.id_after("programs", 4)?,
         files: words.id_after("files", 0)?,
         start: words.id_after("start", 42)?,
+        locks: words.id_after("locks", 0)?,
+        qlocks: words.id_after("qlocks", 0)?,
+        rwlocks: words.id_after("rwlocks", 0)?,
     })
-}
-
-/// The setup of these parts.
-fn setup_of(
-    alloc: Global,
-    sizes: Sizes,
-    threads: Seq<ThreadSetup>,
-    chans: Seq<ChanSetup>,
-    refs: Seq<u64>,
-) -> Setup
-    ensures { IsPlain result }
-{
-    Setup {
-        places: sizes.places,
-        opened: sizes.opened,
-        threads,
-        programs: sizes.programs,
-        chans,
-        locks: 0,
-        qlocks: 0,
-        rwlocks: 0,
-        rendezes: Seq::new(alloc),
-        refs,
-        files: sizes.files,
-        procs: 0,
-        start: sizes.start as u64,
-    }
 }
 
 /// How many threads there are. More than a run can have are refused before memory is taken for them.
@@ -111,11 +99,18 @@ fn channels(alloc: Global, words: &mut Words) -> Result<Seq<ChanSetup>, Fault> {
     Ok(channels.into_seq())
 }
 
-/// The Refs that a line ends with.
-fn last_refs(alloc: Global, words: &mut Words) -> Result<Seq<u64>, Fault> {
-    let refs = refs(alloc, words)?;
-    words.ends()?;
-    Ok(refs)
+/// The QLock of each Rendez.
+fn rendezes(alloc: Global, words: &mut Words) -> Result<Seq<u32>, Fault> {
+    let mut rendezes = Room::new(alloc);
+    for _ in 0..MOST_RENDEZES {
+        if !words.takes("rendez") {
+            break;
+        }
+        let qlock = words.id()?;
+        rendezes.reserve(1)?;
+        rendezes.push(qlock);
+    }
+    Ok(rendezes.into_seq())
 }
 
 fn refs(alloc: Global, words: &mut Words) -> Result<Seq<u64>, Fault> {

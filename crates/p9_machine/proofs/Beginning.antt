@@ -18,6 +18,7 @@ use Rattle.p9_manual.specs.State.{State, Proc, by_id, changed}
 use Rattle.p9_manual.specs.Threads.{with_changed, with_name}
 use Rattle.p9_manual.specs.Draws.{generator_after}
 use Rattle.p9_io.specs.Calls.{begun_count}
+use Rattle.p9_sched.specs.Holding.{held_in}
 use Rattle.p9_sched.specs.Schedule.{Schedule, IsPlace, line_in, begin_schedule}
 use Rattle.p9_sched.specs.Stands.{SchedFor, proc_with}
 use Rattle.p9_machine.specs.Begin.{with_first}
@@ -99,6 +100,15 @@ empty_if : (b : Bool) (n i : ℕ) → line_in (cond b (slice_get (replicate n []
 empty_if true n i = get_empty n i
 empty_if false n i = refl
 
+get_unheld : (n i : ℕ) → held_in (slice_get (replicate n false) i) ≡ false
+get_unheld zero i = refl
+get_unheld (suc n) zero = refl
+get_unheld (suc n) (suc i) = get_unheld n i
+
+unheld_if : (b : Bool) (n i : ℕ) → held_in (cond b (slice_get (replicate n false) i) None) ≡ false
+unheld_if true n i = get_unheld n i
+unheld_if false n i = refl
+
 length_same : {A : Type 0} (n : ℕ) (x : A) → length (replicate n x) ≡ n
 length_same zero x = refl
 length_same (suc n) x = ap suc (length_same n x)
@@ -115,6 +125,7 @@ none_stand setup s e = rw e (record {
   procs = words_none setup.places;
   opened = refl;
   count = length_same setup.places [];
+  held = record { held = λ p a b. unheld_if (nat_lt 0 p) setup.places (p - 1) };
 })
 
 map_push : {A B : Type 0} (f : A → B) → (xs : List A) (x : A) → map f (xs ++ x ∷ []) ≡ map f xs ++ f x ∷ []

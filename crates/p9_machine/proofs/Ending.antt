@@ -9,6 +9,7 @@ use Rattle.p9_manual.specs.declared.state.Place.{Place as Stand}
 use Rattle.p9_manual.specs.declared.state.Place.TheVariants.{Running, New, Ready, Waiting, Ended}
 use Rattle.p9_manual.specs.declared.state.Thread.{Thread}
 use Rattle.p9_manual.specs.Ends.{ended, all_ended}
+use Rattle.p9_manual.specs.LockWaits.{lock_waiters}
 use Rattle.p9_manual.specs.Offers.{parties}
 use Rattle.p9_manual.specs.Sound.{IsSound}
 use Rattle.p9_manual.specs.Standing.{StandOnce, times, place_in}
@@ -17,12 +18,12 @@ use Rattle.p9_manual.specs.Threads.{asked, asked_by, thread_call}
 use Rattle.p9_io.specs.Desks.{Desks}
 use Rattle.p9_io.specs.Stands.{Tracks as IoTracks}
 use Rattle.p9_sched.specs.Schedule.{Schedule}
-use Rattle.p9_sched.specs.Stands.{Tracks}
+use Rattle.p9_sched.specs.Stands.{TracksStanding}
 use Rattle.p9_sched.specs.Turns.{place_of, place_at}
 use Rattle.p9_sched.specs.declared.turns.Place.TheVariants as place
 use Rattle.p9_machine.specs.declared.board.Board.{Board}
 use Rattle.p9_machine.specs.Board.{Stands, IsRunning, Gives}
-use Rattle.p9_machine.proofs.Staying.{with_sched_io}
+use Rattle.p9_machine.proofs.Dispatch.{with_sched_io}
 
 drop_none : {A : Type 0} (b : Bool) (x : A) (n : ℕ) (xs ys : List A) → cond b 1 0 + n ≡ 0 → (n ≡ 0 → xs ≡ ys) → cond (not b) (x ∷ xs) xs ≡ x ∷ ys
 drop_none true x n xs ys h more = absurd (omega arith)
@@ -49,10 +50,12 @@ no_wait : (t : ℕ) (s : State) → place_of (by_id s.threads t) ≡ place.Runni
 no_wait t s runs stand = none_out (λ w. w.tid == t) s.waits (stand.in_waits t ∙ (rw (stands_running _ runs) refl))
 
 -- the caller has ended
-pub thread_ended : (board : Board) (sched : Schedule) (io : Desks) (t : ℕ) (s : State) → IsRunning t board.sched → Tracks (ended t) board.sched sched → IoTracks (ended t) board.io io → Stands board s → IsSound board.setup s → Gives s (replied EndedReply (ended t s)) EndedReply (record board { sched = sched; io = io })
+pub thread_ended : (board : Board) (sched : Schedule) (io : Desks) (t : ℕ) (s : State) → IsRunning t board.sched → TracksStanding (ended t) board.sched sched → IoTracks (ended t) board.io io → Stands board s → IsSound board.setup s → Gives s (replied EndedReply (ended t s)) EndedReply (record board { sched = sched; io = io })
 thread_ended board sched io t s runs threads ioprocs st sound = record {
   reply_is = refl;
-  stands = with_sched_io board sched io s (ended t s) refl (ap parties (no_wait t s (rw st.sched.threads runs) sound.stand)) (threads board.setup.places s st.sched) (ioprocs s st.io) st;
+  stands =
+      let same = no_wait t s (rw st.sched.threads runs) sound.stand in
+      with_sched_io board sched io s (ended t s) refl (ap parties same) (ap lock_waiters same) (threads board.setup.places s sound.stand st.sched) (ioprocs s st.io) st;
 }
 
 exits_by : (setup : Setup) (t : ℕ) (text : List ℕ) (s : State) (o : Option Thread) → place_of o ≡ place.Running → asked_by setup t (ask.ThreadExits text) s o ≡ replied EndedReply (ended t s)

@@ -3,7 +3,7 @@ pub mod Dispatch
 pub mod Ending
 pub mod Keeps
 pub mod Laws
+pub mod OutOfAlts
 pub mod Picked
-pub mod Staying
 pub mod Told
 pub mod Turning

@@ -2,6 +2,7 @@
 use Rattle.std.proofs.Common.{ℕ, ◌≡◌, Bool, true, false, not, cond, ◌||◌, List, [], ◌∷◌, length, Option, Some, None, refl, sym, subst, rules, tests, ◌≤◌}
 use Rattle.std.specs.Prelude.{option_map}
 use Rattle.std.specs.List.{list_any, filter}
+use Rattle.p9_word.specs.declared.answer.Answer.{Answer}
 use Rattle.p9_word.specs.declared.setup.Setup.{Setup}
 use Rattle.p9_manual.specs.declared.state.Place.{Place}
 use Rattle.p9_manual.specs.declared.state.Place.TheVariants.{Running, New, Ready, Waiting, Ended}
@@ -14,8 +15,9 @@ use Rattle.p9_word.specs.declared.trail.Reply.TheVariants.{Stray, Over}
 use Rattle.p9_manual.specs.Places.{runs_in, lives, is_of}
 use Rattle.p9_manual.specs.Ioprocs.{take_call, io_event}
 use Rattle.p9_manual.specs.Stuck.{is_stuck}
-use Rattle.p9_manual.specs.Next.{next_event, next_of, turn, turn_reply, started, is_place, is_over}
+use Rattle.p9_manual.specs.Next.{first_ready, next_event, next_of, turn, turn_reply, started, is_place, is_over}
 use Rattle.p9_sched.specs.Messages.{IsOfReply, IsOfAnswer}
+use Rattle.p9_sched.specs.Holding.{is_held}
 use Rattle.p9_sched.specs.Schedule.{Schedule, line_of}
 use Rattle.p9_sched.specs.Turns.{first_answer, answer_of, answer_at, answer_next}
 use Rattle.p9_machine.specs.declared.board.Board.{Board}
@@ -62,12 +64,12 @@ of_next_of : (m : List ℕ) (s : State) (o : Option (ℕ × List ℕ)) → IsOfP
 of_next_of m s None h = of_if m (is_stuck s) _ _ tt tt
 of_next_of m s (Some found) h = of_thread_at m found.0 (record s { line = found.1 }) (by_id s.threads found.0) h
 
-of_next_at : (b : Bool) (m : List ℕ) (S : Setup) (p : ℕ) (s : State) → is_place S p ≡ b → (is_place S p ≡ true → IsOfPicked (pick (λ t. is_of p (by_id s.threads t)) s.line) s.threads m) → IsOf (cond (not b) (same Stray s) (cond (is_over p s) (same Over s) (cond (list_any (runs_in p) s.threads) (same Stray s) (next_of s (pick (λ t. is_of p (by_id s.threads t)) s.line))))) m
+of_next_at : (b : Bool) (m : List ℕ) (S : Setup) (p : ℕ) (s : State) → is_place S p ≡ b → (is_place S p ≡ true → IsOfPicked (first_ready p s) s.threads m) → IsOf (cond (not b) (same Stray s) (cond (is_over p s) (same Over s) (cond (list_any (runs_in p) s.threads) (same Stray s) (next_of s (first_ready p s))))) m
 of_next_at false m S p s e h = tt
 of_next_at true m S p s e h =
-    of_if m (is_over p s) _ _ tt (of_if m (list_any (runs_in p) s.threads) _ _ tt (of_next_of m s (pick (λ t. is_of p (by_id s.threads t)) s.line) (h e)))
+    of_if m (is_over p s) _ _ tt (of_if m (list_any (runs_in p) s.threads) _ _ tt (of_next_of m s (first_ready p s) (h e)))
 
-of_next : (m : List ℕ) (S : Setup) (p : ℕ) (s : State) → (is_place S p ≡ true → IsOfPicked (pick (λ t. is_of p (by_id s.threads t)) s.line) s.threads m) → IsOf (next_event S p s) m
+of_next : (m : List ℕ) (S : Setup) (p : ℕ) (s : State) → (is_place S p ≡ true → IsOfPicked (first_ready p s) s.threads m) → IsOf (next_event S p s) m
 unfolding next_event
 of_next m S p s h = of_next_at (is_place S p) m S p s refl h
 
@@ -102,11 +104,18 @@ place_from S p h = search (rules, tests)
 place_to : (S : Setup) (p : ℕ) → is_place S p ≡ true → p ≤ S.places
 place_to S p h = search (rules, tests)
 
-next_told : (board : Board) (s : State) (p : ℕ) (m : List ℕ) → is_place board.setup p ≡ true → Stands board s → IsOfNext (answer_next p board.sched) m → IsOfPicked (pick (λ t. is_of p (by_id s.threads t)) s.line) s.threads m
+first_told : (b : Bool) (m : List ℕ) (threads : List Thread) (a : Option Answer) (o : Option (ℕ × List ℕ)) → (IsOfNext a m → IsOfPicked o threads m) → IsOfNext (cond b None a) m → IsOfPicked (cond b None o) threads m
+first_told true m threads a o f h = tt
+first_told false m threads a o f h = f h
+
+next_told : (board : Board) (s : State) (p : ℕ) (m : List ℕ) → is_place board.setup p ≡ true → Stands board s → IsOfNext (answer_next p board.sched) m → IsOfPicked (first_ready p s) s.threads m
 next_told board s p m at st h =
     let to : p ≤ length board.sched.lines = rw st.sched.count (place_to board.setup p at) in
     let part = st.sched.lines.part p (place_from board.setup p at) to in
-    subst (λ (ts : List Thread). IsOfPicked (pick (λ t. is_of p (by_id ts t)) s.line) ts m) (sym st.sched.threads) (next_picked p board.sched s.line (line_of p board.sched) m (sym part) h)
+    let held = st.sched.held.held p (place_from board.setup p at) to in
+    let picked : IsOfNext (first_answer board.sched (line_of p board.sched)) m → IsOfPicked (pick (λ t. is_of p (by_id s.threads t)) s.line) s.threads m = λ x. subst (λ (ts : List Thread). IsOfPicked (pick (λ t. is_of p (by_id ts t)) s.line) ts m) (sym st.sched.threads) (next_picked p board.sched s.line (line_of p board.sched) m (sym part) x) in
+    subst (λ (b : Bool). IsOfPicked (cond b None (pick (λ t. is_of p (by_id s.threads t)) s.line)) s.threads m) held
+    (first_told (is_held p board.sched) m s.threads (first_answer board.sched (line_of p board.sched)) (pick (λ t. is_of p (by_id s.threads t)) s.line) picked h)
 
 -- the message that was copied for a turn is that of its reply
 pub told_next : (board : Board) (s : State) (p : ℕ) (r : Reply) (m : List ℕ) → Stands board s → r ≡ (next_event board.setup p s).reply → IsOfNext (answer_next p board.sched) m → IsOfReply r m

@@ -1,6 +1,7 @@
 -- What happens where a thread is to run.
-use Rattle.std.proofs.Common.{◌≡◌, ℕ, zero, suc, ◌+◌, ◌-◌, ◌≤◌, Bool, true, false, not, cond, ◌||◌, List, [], ◌∷◌, Option, Some, None, MatchOption, refl, ap, sym, subst, ◌∙◌, arith, rules, tests}
-use Rattle.std.specs.Prelude.{option_map, slice_get, nat_lt, nat_le, nat_eq, is_some, if◌then◌else◌}
+use Rattle.std.proofs.Common.{◌≡◌, ℕ, zero, suc, ◌+◌, ◌-◌, ◌≤◌, Bool, true, false, not, cond, ◌&&◌, ◌||◌, List, [], ◌∷◌, Option, Some, None, MatchOption, inl, inr, ◌⊎◌, refl, ap, sym, subst, ◌∙◌, arith, rules, tests}
+use Rattle.std.proofs.lemmas.List.Elements.{All-head, All-tail}
+use Rattle.std.specs.Prelude.{All, option_map, slice_get, nat_lt, nat_le, nat_eq, is_some, if◌then◌else◌}
 use Rattle.std.specs.List.{filter, list_any}
 use Rattle.p9_word.specs.declared.setup.Setup.{Setup}
 use Rattle.p9_word.specs.declared.trail.Reply.{Reply}
@@ -9,20 +10,24 @@ use Rattle.p9_manual.specs.declared.state.Place.{Place as Stand}
 use Rattle.p9_manual.specs.declared.state.Place.TheVariants as stand
 use Rattle.p9_manual.specs.declared.state.Thread.{Thread}
 use Rattle.p9_manual.specs.State.{State, Outcome, by_id, pick, same}
-use Rattle.p9_manual.specs.Places.{is_of, lives, lives_in, runs_in, runs_there}
+use Rattle.p9_manual.specs.Places.{has_call, is_of, lives, lives_in, runs, runs_in, runs_there}
+use Rattle.p9_manual.specs.Sound.{IsSound, IsThreadIn}
 use Rattle.p9_manual.specs.Standing.{times}
-use Rattle.p9_manual.specs.Next.{is_place, is_over, started, turn, turn_reply, next_of, next_event}
+use Rattle.p9_manual.specs.Stuck.{can_run as state_can_run, is_stuck}
+use Rattle.p9_manual.specs.Held.{is_held as state_is_held}
+use Rattle.p9_manual.specs.Next.{is_place, is_over, first_ready, started, turn, turn_reply, next_of, next_event}
 use Rattle.p9_manual.specs.Step.{makes_entry}
 use Rattle.p9_sched.specs.declared.turns.Ready.{Ready}
 use Rattle.p9_sched.specs.declared.turns.Ready.TheVariants.{New, Old}
+use Rattle.p9_sched.specs.Holding.{is_held}
 use Rattle.p9_sched.specs.Schedule.{Schedule, IsPlace, line_of}
-use Rattle.p9_sched.specs.Stands.{Tracks, after_next}
-use Rattle.p9_sched.specs.Turns.{ready_at, ready_of, turn_of, next_in}
+use Rattle.p9_sched.specs.Stands.{SchedFor, Tracks, after_next}
+use Rattle.p9_sched.specs.Turns.{can_run, ready_at, ready_of, turn_of, next_in}
 use Rattle.p9_machine.specs.declared.board.Board.{Board}
 use Rattle.p9_machine.specs.Board.{Stands, Gives}
 use Rattle.p9_machine.specs.Turns.{turn_told}
 use Rattle.p9_machine.proofs.Picked.{first_of, none_picked}
-use Rattle.p9_machine.proofs.Staying.{moved, with_sched}
+use Rattle.p9_machine.proofs.Dispatch.{moved, with_sched}
 
 -- whom proc p may pick
 abbrev pub of_proc : ℕ → State → ℕ → Bool
@@ -54,6 +59,11 @@ is_turn s t line ready e = record {
   others = turn_leaves t s line (option_map started (by_id s.threads t));
 }
 
+-- a held proc gives no turn
+picks_where : (b : Bool) (ready : Ready) (n m : Schedule) (o : Option (ℕ × List ℕ)) (x : Option Ready × Schedule) → (Some ready, n) ≡ cond b (None, m) x → (cond b None o ≡ o) × ((Some ready, n) ≡ x)
+picks_where true ready n m o x e = absurd (cc (ap (λ (y : Option Ready × Schedule). y.0) e))
+picks_where false ready n m o x e = (refl, e)
+
 turn_by : (s : State) (sched n : Schedule) (p : ℕ) (ready : Ready) (part : List ℕ) → s.threads ≡ sched.threads → filter (of_proc p s) s.line ≡ part → (Some ready, n) ≡ turn_of p sched part → IsTurn s (pick (of_proc p s) s.line) ready
 turn_by s sched n p ready [] threads mine e = absurd (cc (ap (λ (x : Option Ready × Schedule). x.0) e))
 turn_by s sched n p ready (t ∷ rest) threads mine e =
@@ -67,26 +77,48 @@ part_of : (board : Board) (s : State) (p : ℕ) → IsPlace p board.sched → St
 part_of board s p place st =
     subst (λ (ts : List Thread). filter (λ t. is_of p (by_id ts t)) s.line ≡ line_of p board.sched) (sym st.sched.threads) (sym (st.sched.lines.part p place.from place.to))
 
+-- whether a proc is held
+held_as : (board : Board) (s : State) (p : ℕ) → IsPlace p board.sched → Stands board s → is_held p board.sched ≡ state_is_held p s
+held_as board s p place st = st.sched.held.held p place.from place.to
+
 turn_makes : (ready : Ready) → makes_entry (turn_told ready) ≡ true
 turn_makes (New t program arg) = refl
 turn_makes (Old t a) = refl
 
 -- the first thread of a proc's line runs
-pub turned : (board : Board) (s : State) (p : ℕ) (ready : Ready) (n : Schedule) → IsPlace p board.sched → (Some ready, n) ≡ next_in p board.sched → Tracks (after_next p) board.sched n → Stands board s → Gives s (next_of s (pick (λ t. is_of p (by_id s.threads t)) s.line)) (turn_told ready) (record board { sched = n })
+turn_in_line : (board : Board) (s : State) (p : ℕ) (ready : Ready) (n : Schedule) → IsPlace p board.sched → (Some ready, n) ≡ next_in p board.sched → Stands board s → IsTurn s (first_ready p s) ready
+turn_in_line board s p ready n place e st =
+    let at = picks_where (is_held p board.sched) ready n board.sched (pick (of_proc p s) s.line) (turn_of p board.sched (line_of p board.sched)) e in
+    let first : first_ready p s ≡ pick (of_proc p s) s.line = rw (sym (held_as board s p place st)) at.0 in
+    subst (λ (o : Option (ℕ × List ℕ)). IsTurn s o ready) (sym first) (turn_by s board.sched n p ready (line_of p board.sched) st.sched.threads (part_of board s p place st) at.1)
+
+pub turned : (board : Board) (s : State) (p : ℕ) (ready : Ready) (n : Schedule) → IsPlace p board.sched → (Some ready, n) ≡ next_in p board.sched → Tracks (after_next p) board.sched n → Stands board s → Gives s (next_of s (first_ready p s)) (turn_told ready) (record board { sched = n })
 turned board s p ready n place e tracks st =
-    let t = turn_by s board.sched n p ready (line_of p board.sched) st.sched.threads (part_of board s p place st) e in
+    let t = turn_in_line board s p ready n place e st in
     moved (record board { sched = n }) s _ (turn_told ready) t.told (turn_makes ready) (with_sched board n s _ t.others (tracks board.setup.places s st.sched) st)
 
--- where a proc's line is empty nothing changes
-none_left : (p : ℕ) (s n : Schedule) → line_of p s ≡ [] → (None, n) ≡ next_in p s → n ≡ s
-none_left p s n e h =
-    let at : next_in p s ≡ (None, s) = ap (turn_of p s) e in
+either_same : {A : Type 0} (b : Bool) (x y : A) → y ≡ x → cond b x y ≡ x
+either_same true x y e = refl
+either_same false x y e = e
+
+-- where a proc is held or its line is empty nothing changes
+none_left : (p : ℕ) (s n : Schedule) → (is_held p s ≡ true) ⊎ (line_of p s ≡ []) → (None, n) ≡ next_in p s → n ≡ s
+none_left p s n (inl e) h =
+    let at : next_in p s ≡ (None, s) = rw e refl in
+    ap (λ (x : Option Ready × Schedule). x.1) (h ∙ at)
+none_left p s n (inr e) h =
+    let at : next_in p s ≡ (None, s) = either_same (is_held p s) (None, s) (turn_of p s (line_of p s)) (ap (turn_of p s) e) in
     ap (λ (x : Option Ready × Schedule). x.1) (h ∙ at)
 
--- where a proc's line is empty none of its threads is picked
-pub not_turned : (board new : Board) (s : State) (p : ℕ) (n : Schedule) (r : Reply) → IsPlace p board.sched → line_of p board.sched ≡ [] → (None, n) ≡ next_in p board.sched → (Stands (record board { sched = n }) s → Gives s (next_of s None) r new) → Stands board s → Gives s (next_of s (pick (λ t. is_of p (by_id s.threads t)) s.line)) r new
+-- and none of its threads is picked
+none_first : (board : Board) (s : State) (p : ℕ) → IsPlace p board.sched → (is_held p board.sched ≡ true) ⊎ (line_of p board.sched ≡ []) → Stands board s → first_ready p s ≡ None
+none_first board s p place (inl e) st = rw (sym (held_as board s p place st), e) refl
+none_first board s p place (inr e) st =
+    either_same (state_is_held p s) None (pick (of_proc p s) s.line) (none_picked (of_proc p s) s.line (part_of board s p place st ∙ e))
+
+pub not_turned : (board new : Board) (s : State) (p : ℕ) (n : Schedule) (r : Reply) → IsPlace p board.sched → (is_held p board.sched ≡ true) ⊎ (line_of p board.sched ≡ []) → (None, n) ≡ next_in p board.sched → (Stands (record board { sched = n }) s → Gives s (next_of s None) r new) → Stands board s → Gives s (next_of s (first_ready p s)) r new
 not_turned board new s p n r place empty e f st =
-    let none : pick (of_proc p s) s.line ≡ None = none_picked (of_proc p s) s.line (part_of board s p place st ∙ empty) in
+    let none : first_ready p s ≡ None = none_first board s p place empty st in
     let kept = none_left p board.sched n empty e in
     let on = f (subst (λ (m : Schedule). Stands (record board { sched = m }) s) (sym kept) st) in
     subst (λ (o : Option (ℕ × List ℕ)). Gives s (next_of s o) r new) (sym none) on
@@ -138,16 +170,67 @@ runs_by b c d s o e f g = rw (e, f, g) refl
 -- what a proc's event comes to
 pub next_off : (setup : Setup) (p : ℕ) (s : State) → is_place setup p ≡ false → next_event setup p s ≡ same Stray s
 unfolding next_event
-next_off setup p s e = off_by (is_place setup p) (is_over p s) (list_any (runs_in p) s.threads) s (next_of s (pick (λ t. is_of p (by_id s.threads t)) s.line)) e
+next_off setup p s e = off_by (is_place setup p) (is_over p s) (list_any (runs_in p) s.threads) s (next_of s (first_ready p s)) e
 
 pub next_over : (setup : Setup) (p : ℕ) (s : State) → is_place setup p ≡ true → is_over p s ≡ true → next_event setup p s ≡ same Over s
 unfolding next_event
-next_over setup p s e f = over_by (is_place setup p) (is_over p s) (list_any (runs_in p) s.threads) s (next_of s (pick (λ t. is_of p (by_id s.threads t)) s.line)) e f
+next_over setup p s e f = over_by (is_place setup p) (is_over p s) (list_any (runs_in p) s.threads) s (next_of s (first_ready p s)) e f
 
 pub next_stray : (setup : Setup) (p : ℕ) (s : State) → is_place setup p ≡ true → is_over p s ≡ false → list_any (runs_in p) s.threads ≡ true → next_event setup p s ≡ same Stray s
 unfolding next_event
-next_stray setup p s e f g = stray_by (is_place setup p) (is_over p s) (list_any (runs_in p) s.threads) s (next_of s (pick (λ t. is_of p (by_id s.threads t)) s.line)) e f g
+next_stray setup p s e f g = stray_by (is_place setup p) (is_over p s) (list_any (runs_in p) s.threads) s (next_of s (first_ready p s)) e f g
 
-pub next_runs : (setup : Setup) (p : ℕ) (s : State) → is_place setup p ≡ true → is_over p s ≡ false → list_any (runs_in p) s.threads ≡ false → next_event setup p s ≡ next_of s (pick (λ t. is_of p (by_id s.threads t)) s.line)
+pub next_runs : (setup : Setup) (p : ℕ) (s : State) → is_place setup p ≡ true → is_over p s ≡ false → list_any (runs_in p) s.threads ≡ false → next_event setup p s ≡ next_of s (first_ready p s)
 unfolding next_event
-next_runs setup p s e f g = runs_by (is_place setup p) (is_over p s) (list_any (runs_in p) s.threads) s (next_of s (pick (λ t. is_of p (by_id s.threads t)) s.line)) e f g
+next_runs setup p s e f g = runs_by (is_place setup p) (is_over p s) (list_any (runs_in p) s.threads) s (next_of s (first_ready p s)) e f g
+
+-- whether a thread can run
+can_run_as : (places : ℕ) (setup : Setup) (sched : Schedule) (s : State) (x : Thread) → IsThreadIn s.opened setup.programs x → s.opened ≤ places → SchedFor places sched s → can_run sched x ≡ state_can_run s x
+can_run_as places setup sched s x member opened h =
+    let from = member.proc_no.from in
+    let to = member.proc_no.to in
+    let count = h.count in
+    rw (h.held.held x.proc_no from (omega arith)) refl
+
+any_can_run : (places : ℕ) (setup : Setup) (sched : Schedule) (s : State) → s.opened ≤ places → SchedFor places sched s → (xs : List Thread) → All (IsThreadIn s.opened setup.programs) xs → list_any (can_run sched) xs ≡ list_any (state_can_run s) xs
+any_can_run places setup sched s opened h [] all = refl
+any_can_run places setup sched s opened h (x ∷ xs) all =
+    rw (
+      can_run_as places setup sched s x (All-head (IsThreadIn s.opened setup.programs) x xs all) opened h,
+      any_can_run places setup sched s opened h xs (All-tail (IsThreadIn s.opened setup.programs) x xs all),
+    ) refl
+
+pub some_can_run : (setup : Setup) (sched : Schedule) (s : State) → SchedFor setup.places sched s → IsSound setup s → list_any (can_run sched) sched.threads ≡ list_any (state_can_run s) s.threads
+some_can_run setup sched s h sound = rw (sym h.threads) (any_can_run setup.places setup sched s sound.opened h s.threads sound.members)
+
+-- a run is stuck by what the parts say
+stuck_value : (board : Board) (s : State) → Stands board s → IsSound board.setup s → is_stuck s ≡ (list_any lives board.sched.threads && not (list_any runs board.sched.threads) && not (list_any (can_run board.sched) board.sched.threads) && not (list_any has_call board.io.ioprocs))
+stuck_value board s st sound = rw (some_can_run board.setup board.sched s st.sched sound, sym st.sched.threads, sym st.io.ioprocs) refl
+
+dead_off : (a b r h : Bool) → a ≡ false → (a && not b && not r && not h) ≡ false
+dead_off a b r h e = rw e refl
+
+running_off : (a b r h : Bool) → b ≡ true → (a && not b && not r && not h) ≡ false
+running_off true b r h e = rw e refl
+running_off false b r h e = refl
+
+ready_off : (a b r h : Bool) → r ≡ true → (a && not b && not r && not h) ≡ false
+ready_off true true r h e = refl
+ready_off true false r h e = rw e refl
+ready_off false b r h e = refl
+
+calls_left : (a b r h : Bool) → a ≡ true → b ≡ false → r ≡ false → (a && not b && not r && not h) ≡ not h
+calls_left a b r h ea eb er = rw (ea, eb, er) refl
+
+-- no thread lives; one runs; one can run; else it is stuck unless an ioproc has a call
+pub stuck_dead : (board : Board) (s : State) → Stands board s → IsSound board.setup s → list_any lives board.sched.threads ≡ false → false ≡ is_stuck s
+stuck_dead board s st sound e = sym (stuck_value board s st sound ∙ dead_off _ _ _ _ e)
+
+pub stuck_running : (board : Board) (s : State) → Stands board s → IsSound board.setup s → list_any runs board.sched.threads ≡ true → false ≡ is_stuck s
+stuck_running board s st sound e = sym (stuck_value board s st sound ∙ running_off (list_any lives board.sched.threads) _ _ _ e)
+
+pub stuck_ready : (board : Board) (s : State) → Stands board s → IsSound board.setup s → list_any (can_run board.sched) board.sched.threads ≡ true → false ≡ is_stuck s
+stuck_ready board s st sound e = sym (stuck_value board s st sound ∙ ready_off (list_any lives board.sched.threads) (list_any runs board.sched.threads) _ _ e)
+
+pub stuck_calls : (board : Board) (s : State) (h : Bool) → Stands board s → IsSound board.setup s → list_any lives board.sched.threads ≡ true → list_any runs board.sched.threads ≡ false → list_any (can_run board.sched) board.sched.threads ≡ false → h ≡ list_any has_call board.io.ioprocs → not h ≡ is_stuck s
+stuck_calls board s h st sound a b r e = ap not e ∙ sym (stuck_value board s st sound ∙ calls_left _ _ _ (list_any has_call board.io.ioprocs) a b r)

@@ -22,7 +22,7 @@ use Rattle.p9_machine.specs.Shown.{rooms_after}
 pub record Stands (board : Board) (s : State) : Type 0 where
   pub sched : SchedFor board.setup.places board.sched s
   pub alts : AltsFor board.alts s
-  pub locks : LocksFor board.locks s
+  pub locks : LocksFor board.setup.rendezes board.locks s
   pub io : IoFor board.io s
   pub draws : board.generator ≡ generator_after board.setup.start s.draws
   pub position : s.position ≡ board.position

@@ -2,7 +2,6 @@ pub mod Begin
 pub mod Board
 pub mod Copies
 pub mod Kept
-pub mod Plain
 pub mod Reserved
 pub mod Shown
 pub mod Turns

@@ -12,10 +12,11 @@ use Rattle.p9_sched.specs.Schedule.{Schedule}
 use Rattle.p9_sched.specs.Turns.{answer_next}
 use Rattle.p9_thread_calls.specs.Memory.{HasMemory as HasThreadMemory, message_of}
 use Rattle.p9_chan_calls.specs.Spares.{IsSpare as IsChanSpare}
+use Rattle.p9_lock_calls.specs.Spares.{IsSpare as IsLockSpare}
 use Rattle.p9_io_calls.specs.Needs.{IsSpare as IsIoSpare}
 use Rattle.p9_machine.specs.declared.board.Board.{Board}
-use Rattle.p9_machine.specs.declared.reserve.Asked.{Asked}
-use Rattle.p9_machine.specs.declared.reserve.Asked.TheVariants.{Thread, Chan, Lock, Io}
+use Rattle.p9_machine.specs.declared.groups.Asked.{Asked}
+use Rattle.p9_machine.specs.declared.groups.Asked.TheVariants.{Thread, Chan, Lock, Io}
 use Rattle.p9_machine.specs.declared.reserve.Needs.{Needs}
 use Rattle.p9_machine.specs.declared.reserve.Needs.TheVariants.{Call as CallNeeds, Next, Take, Other}
 use Rattle.p9_machine.specs.declared.reserve.Reserved.{Reserved}
@@ -25,7 +26,7 @@ use Rattle.p9_machine.specs.Copies.{IsOfNext, IsOfPosted}
 abbrev pub request_of : Asked → Request
 request_of (Thread request spare) = ThreadRequest request
 request_of (Chan request spare) = ChanRequest request
-request_of (Lock request) = LockRequest request
+request_of (Lock request spare) = LockRequest request
 request_of (Io request) = IoRequest request
 
 -- who makes the event
@@ -57,7 +58,7 @@ IsStray (IoSeat k) (IoDid effect) = Unit {0}
 abbrev pub HasRequestMemory : Board → ℕ → Asked → Type 0
 HasRequestMemory board t (Thread request spare) = HasThreadMemory request t board.sched spare
 HasRequestMemory board t (Chan request spare) = IsChanSpare request spare board.alts
-HasRequestMemory board t (Lock request) = Unit {0}
+HasRequestMemory board t (Lock request spare) = IsLockSpare request spare board.locks
 HasRequestMemory board t (Io request) = Unit {0}
 
 -- and for an event
@@ -71,7 +72,7 @@ IsReservedFor board (Other seat event) = IsStray seat event
 abbrev pub message_for : Asked → List ℕ
 message_for (Thread request spare) = message_of spare
 message_for (Chan request spare) = []
-message_for (Lock request) = []
+message_for (Lock request spare) = []
 message_for (Io request) = []
 
 -- m is the message that the entry's copy of the reply needs

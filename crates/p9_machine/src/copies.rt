@@ -60,6 +60,7 @@ pub(crate) fn copy_answer(answer: &Answer, message: Msg) -> Answer
         Answer::NoBlock => Answer::NoBlock,
         Answer::Closed => Answer::Closed,
         Answer::Number(n) => Answer::Number(*n),
+        Answer::Met(value) => Answer::Met(*value),
         Answer::Minus => Answer::Minus,
         Answer::Text(_) => Answer::Text(message),
         Answer::Io(answer) => Answer::Io(copy_io_answer(answer, message)),

@@ -7,7 +7,7 @@ ghost use Rattle.p9_machine.specs.Board.{IsRunning, GivesAll, Stays};
 use crate::board::Board;
 use p9_word::{Reply, Tid};
 
-/// Ends the caller in each part. It runs, so no alt keeps it.
+/// Ends the caller in each part. It runs, so no alt and no lock has it among those that wait. What it holds stays held.
 pub(crate) fn exit_thread(board: &mut Board, t: Tid) -> Reply
     requires { IsRunning t board.old.sched }
     ensures gives { GivesAll (λ s. replied Ended (ended t s)) board.old result board.new }
@@ -27,6 +27,7 @@ pub(crate) fn exit_all(board: &mut Board) -> Reply
 {
     board.sched.end_all();
     board.alts.withdraw_all();
+    board.locks.end_all();
     board.io.let_all_go();
     board.over = true;
     Reply::Ended

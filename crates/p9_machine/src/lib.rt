@@ -7,11 +7,11 @@
 //! together, and does what touches all of them: how a run begins, which thread runs next, and how threads end.
 #![tactic(auto)]
 
-mod begin;
 mod board;
 mod copies;
 mod ends;
 mod entries;
+mod groups;
 mod machine;
 mod messages;
 mod next;

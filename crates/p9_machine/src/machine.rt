@@ -2,10 +2,8 @@ ghost use Rattle.std.specs.Prelude.{◌≡◌, ◌-◌, ◌≤◌, ◌<◌, ◌^
 ghost use Rattle.p9_word.specs.Setup.{IsValid};
 ghost use Rattle.p9_manual.specs.State.{changed};
 ghost use Rattle.p9_manual.specs.Effects.{room_for, message_length};
-ghost use Rattle.p9_machine.specs.Plain.{IsPlain};
 
-use crate::begin::begin_board;
-use crate::board::Board;
+use crate::board::{Board, begin_board};
 use crate::entries::{enter, record};
 use crate::reserve::{Reserved, let_go, reserve_for};
 use p9_laws::soundness::states_are_sound;
@@ -45,8 +43,7 @@ impl Machine {
 
     /// A machine that has done nothing yet.
     pub fn new(alloc: Global, setup: &Setup) -> Result<Machine, NoMemory>
-        requires valid { IsValid setup.now }
-        requires plain { IsPlain setup.now }
+        requires { IsValid setup.now }
         ensures { IfOk result
             (λ m. m ≡ record { setup = setup.now; entries = []; reserved = None; rooms = replicate setup.now.files false }) }
     {

@@ -2,6 +2,7 @@ ghost use Rattle.std.specs.Prelude.{◌≡◌, None, false};
 ghost use Rattle.std.specs.List.{list_any};
 ghost use Rattle.p9_manual.specs.State.{State};
 ghost use Rattle.p9_manual.specs.Places.{runs_in};
+ghost use Rattle.p9_manual.specs.Sound.{IsSound};
 ghost use Rattle.p9_manual.specs.Stuck.{is_stuck};
 ghost use Rattle.p9_manual.specs.Next.{is_place, is_over, next_of, next_event};
 ghost use Rattle.p9_sched.specs.Schedule.{IsPlace};
@@ -14,12 +15,18 @@ use p9_word::{Reply, Setup};
 
 /// Whether threads live, and none of them can ever run again.
 fn is_stuck(board: &Board) -> bool
-    ensures { (s : State) → Stands board.now s → result ≡ is_stuck s }
+    ensures { (s : State) → Stands board.now s → IsSound board.now.setup s → result ≡ is_stuck s }
 {
-    board.sched.has_living()
-        && !board.sched.has_running()
-        && !board.sched.has_ready()
-        && !board.io.has_call()
+    if !board.sched.has_living() {
+        return false;
+    }
+    if board.sched.has_running() {
+        return false;
+    }
+    if board.sched.has_ready() {
+        return false;
+    }
+    !board.io.has_call()
 }
 
 /// Whether p is one of the proc places.
@@ -54,7 +61,7 @@ fn told_turn(ready: Ready) -> Reply
     }
 }
 
-/// Where no thread of a proc is ready, the run is stuck or there is nothing to do now.
+/// Where no thread of a proc is to run, the run is stuck or there is nothing to do now.
 fn stuck_or_idle(board: &mut Board) -> Reply
     ensures gives { GivesAll (λ s. next_of s None) board.old result board.new }
     ensures stays { Stays board.old board.new }
@@ -67,7 +74,7 @@ fn stuck_or_idle(board: &mut Board) -> Reply
     }
 }
 
-/// The first ready thread of proc p runs, if there is one.
+/// The first ready thread of proc p runs, if there is one and p isn't held.
 fn run_next(board: &mut Board, p: u32) -> Reply
     requires place { IsPlace p board.old.sched }
     requires idle { list_any (runs_in p) board.old.sched.threads ≡ false }

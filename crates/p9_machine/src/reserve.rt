@@ -1,29 +1,13 @@
 ghost use Rattle.std.specs.Prelude.{◌≡◌, Some, None, OnOk, OnErr};
-ghost use Rattle.p9_word.specs.declared.trail.Event.TheVariants.{Call};
 ghost use Rattle.p9_word.specs.declared.trail.Seat.TheVariants.{Proc, Io as IoSeat};
-ghost use Rattle.p9_word.specs.declared.request.Request.TheVariants.{Thread as ThreadRequest, Chan as ChanRequest, Lock as LockRequest, Io as IoRequest};
 ghost use Rattle.p9_machine.specs.Board.{TakesMemory};
 ghost use Rattle.p9_machine.specs.Reserved.{IsKeptFor, IsStray};
 
 use crate::board::Board;
+use crate::groups::{Asked, for_request};
 use crate::messages::{message_of_next, message_posted};
-use p9_word::{
-    ChanReq, Datum, Event, IoReq, LockReq, Msg, NoMemory, Request, Seat, ThreadReq, Tid,
-};
+use p9_word::{Datum, Event, Msg, NoMemory, Seat, Tid};
 use std::alloc::Global;
-
-/// A request, with what it needs beside what the parts keep ready for it.
-#[derive(Drop)]
-pub(crate) enum Asked {
-    /// On threads.
-    Thread(ThreadReq, p9_thread_calls::Spare),
-    /// On channels.
-    Chan(ChanReq, p9_chan_calls::Spare),
-    /// On locks.
-    Lock(LockReq),
-    /// On ioprocs.
-    Io(IoReq),
-}
 
 /// The event that there is memory for, with what it needs beside what the parts keep ready for it.
 #[derive(Drop)]
@@ -77,7 +61,7 @@ pub(crate) fn let_go(kept: &mut Option<Reserved>)
 /// Keeps what is reserved. Nothing was kept, which is asked again: the compiler knows it then, and reads no old memory to be
 /// dropped.
 #[inline(always)]
-fn keep(kept: &mut Option<Reserved>, reserved: Reserved)
+pub(crate) fn keep(kept: &mut Option<Reserved>, reserved: Reserved)
     requires { kept.old ≡ None }
     ensures { kept.new ≡ Some reserved }
 {
@@ -85,119 +69,6 @@ fn keep(kept: &mut Option<Reserved>, reserved: Reserved)
         return forget(kept);
     }
     *kept = Some(reserved);
-}
-
-/// For a request on threads. It stands by itself, so that the rest is small enough to be inlined.
-#[inline(never)]
-fn for_threads(
-    board: &mut Board,
-    p: u32,
-    t: Tid,
-    request: &ThreadReq,
-    alloc: Global,
-    kept: &mut Option<Reserved>,
-) -> Result<(), NoMemory>
-    requires { kept.old ≡ None }
-    ensures takes { TakesMemory board.old board.new }
-    ensures memory { OnOk result (IsKeptFor board.new (Proc p) (Call t (ThreadRequest request.now)) kept.new) }
-    ensures none { OnErr result (kept.new ≡ None) }
-{
-    let copy = request.copied(alloc)?;
-    let spare = p9_thread_calls::reserve(&mut board.sched, t, request, alloc)?;
-    let told = spare.message()?;
-    let needs = Needs::Call(p, t, Asked::Thread(copy, spare));
-    keep(kept, Reserved { needs, told });
-    Ok(())
-}
-
-/// For a request on channels.
-#[inline(always)]
-fn for_chans(
-    board: &mut Board,
-    p: u32,
-    t: Tid,
-    request: &ChanReq,
-    alloc: Global,
-    kept: &mut Option<Reserved>,
-) -> Result<(), NoMemory>
-    requires { kept.old ≡ None }
-    ensures takes { TakesMemory board.old board.new }
-    ensures memory { OnOk result (IsKeptFor board.new (Proc p) (Call t (ChanRequest request.now)) kept.new) }
-    ensures none { OnErr result (kept.new ≡ None) }
-{
-    let spare = p9_chan_calls::reserve(&mut board.alts, request, alloc)?;
-    let copy = request.copied(alloc)?;
-    let needs = Needs::Call(p, t, Asked::Chan(copy, spare));
-    let told = Msg::new();
-    keep(kept, Reserved { needs, told });
-    Ok(())
-}
-
-/// For a request on locks.
-#[inline(always)]
-fn for_locks(
-    board: &Board,
-    p: u32,
-    t: Tid,
-    request: &LockReq,
-    alloc: Global,
-    kept: &mut Option<Reserved>,
-) -> Result<(), NoMemory>
-    requires { kept.old ≡ None }
-    ensures memory { OnOk result (IsKeptFor board.now (Proc p) (Call t (LockRequest request.now)) kept.new) }
-    ensures none { OnErr result (kept.new ≡ None) }
-{
-    let _ = board;
-    let copy = request.copied(alloc)?;
-    let needs = Needs::Call(p, t, Asked::Lock(copy));
-    let told = Msg::new();
-    keep(kept, Reserved { needs, told });
-    Ok(())
-}
-
-/// For a request on ioprocs.
-#[inline(always)]
-fn for_ioprocs(
-    board: &Board,
-    p: u32,
-    t: Tid,
-    request: &IoReq,
-    alloc: Global,
-    kept: &mut Option<Reserved>,
-) -> Result<(), NoMemory>
-    requires { kept.old ≡ None }
-    ensures memory { OnOk result (IsKeptFor board.now (Proc p) (Call t (IoRequest request.now)) kept.new) }
-    ensures none { OnErr result (kept.new ≡ None) }
-{
-    let _ = board;
-    let copy = request.copied(alloc)?;
-    let needs = Needs::Call(p, t, Asked::Io(copy));
-    let told = Msg::new();
-    keep(kept, Reserved { needs, told });
-    Ok(())
-}
-
-/// For a request of thread t, told by proc p.
-#[inline(always)]
-fn for_request(
-    board: &mut Board,
-    p: u32,
-    t: Tid,
-    request: &Request,
-    alloc: Global,
-    kept: &mut Option<Reserved>,
-) -> Result<(), NoMemory>
-    requires { kept.old ≡ None }
-    ensures takes { TakesMemory board.old board.new }
-    ensures memory { OnOk result (IsKeptFor board.new (Proc p) (Call t request.now) kept.new) }
-    ensures none { OnErr result (kept.new ≡ None) }
-{
-    match request {
-        Request::Thread(request) => for_threads(board, p, t, request, alloc, kept),
-        Request::Chan(request) => for_chans(board, p, t, request, alloc, kept),
-        Request::Lock(request) => for_locks(board, p, t, request, alloc, kept),
-        Request::Io(request) => for_ioprocs(board, p, t, request, alloc, kept),
-    }
 }
 
 /// For a proc that asks which thread is to run.

@@ -6,8 +6,8 @@
 //! that waits elsewhere.
 #![tactic(auto)]
 
+ghost use Rattle.std.specs.Prelude.{◌≤◌, ◌+◌, IfOk, IfSome};
 ghost use Rattle.p9_word.specs.Setup.{IsValid};
-ghost use Rattle.p9_machine.specs.Plain.{IsPlain};
 
 mod events;
 mod players;
@@ -16,6 +16,7 @@ mod setup;
 use crate::events::plays;
 use crate::setup::setup_of;
 use p9_machine::Machine;
+use p9_word::limits::MOST_THREADS;
 use p9_word::{NoMemory, Setup};
 use std::alloc::Global;
 use std::process::ExitCode;
@@ -40,15 +41,21 @@ fn number(word: Option<String>) -> Option<u32> {
 }
 
 /// A size that can be run.
-fn size_of(rounds: Option<u32>, waiting: Option<u32>) -> Option<Size> {
+fn size_of(rounds: Option<u32>, waiting: Option<u32>) -> Option<Size>
+    ensures { IfSome result (λ size. size.waiting + 2 ≤ MOST_THREADS) }
+{
     match (rounds, waiting) {
-        (Some(rounds), Some(waiting)) if waiting <= 65534 => Some(Size { rounds, waiting }),
+        (Some(rounds), Some(waiting)) if waiting as usize + 2 <= MOST_THREADS => {
+            Some(Size { rounds, waiting })
+        }
         _ => None,
     }
 }
 
 /// The size that the two words after the program's name ask for.
-fn size_asked<R: Env + AllocGlobal>(rt: &R) -> io::Result<Option<Size>> {
+fn size_asked<R: Env + AllocGlobal>(rt: &R) -> io::Result<Option<Size>>
+    ensures { IfOk result (λ asked. IfSome asked (λ size. size.waiting + 2 ≤ MOST_THREADS)) }
+{
     let mut words = env::args(rt)?.skip(1);
     let rounds = number(words.next());
     let waiting = number(words.next());
@@ -58,8 +65,7 @@ fn size_asked<R: Env + AllocGlobal>(rt: &R) -> io::Result<Option<Size>> {
 /// A run on a machine of its own: how many entries its trail has, or `None` where the machine replied otherwise
 /// than it should.
 fn run_from(alloc: Global, setup: &Setup, size: Size) -> Result<Option<usize>, NoMemory>
-    requires valid { IsValid setup.now }
-    requires plain { IsPlain setup.now }
+    requires { IsValid setup.now }
 {
     match Machine::new(alloc, setup) {
         Ok(mut machine) => {
@@ -81,21 +87,12 @@ fn counted(played: Result<bool, NoMemory>, count: usize) -> Result<Option<usize>
     }
 }
 
-/// A run from a setup that no run may start from comes to nothing.
-fn run_if_valid(alloc: Global, setup: &Setup, size: Size) -> Result<Option<usize>, NoMemory>
-    requires { IsPlain setup.now }
-{
-    if setup.is_valid() {
-        run_from(alloc, setup, size)
-    } else {
-        Ok(None)
-    }
-}
-
 /// A whole run: how many entries its trail has, or `None` where the machine replied otherwise than it should.
-fn run(alloc: Global, size: Size) -> Result<Option<usize>, NoMemory> {
+fn run(alloc: Global, size: Size) -> Result<Option<usize>, NoMemory>
+    requires { size.waiting + 2 ≤ MOST_THREADS }
+{
     match setup_of(alloc, size.waiting) {
-        Ok(setup) => run_if_valid(alloc, &setup, size),
+        Ok(setup) => run_from(alloc, &setup, size),
         Err(NoMemory) => Err(NoMemory),
     }
 }

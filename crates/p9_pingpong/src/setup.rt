@@ -1,29 +1,42 @@
-ghost use Rattle.std.specs.Prelude.{IfOk};
-ghost use Rattle.p9_machine.specs.Plain.{IsPlain};
+ghost use Rattle.std.specs.Prelude.{◌≡◌, ◌≤◌, ◌+◌, length, All, IfOk};
+ghost use Rattle.p9_word.specs.Setup.{IsThreadOf, IsChan, IsValid};
 
+use p9_word::limits::MOST_THREADS;
 use p9_word::{ChanSetup, Msg, NoMemory, Room, Seq, Setup, ThreadSetup};
 use std::alloc::Global;
 
+/// A thread in proc 1, with the one program there is.
+fn thread() -> ThreadSetup
+    ensures { IsThreadOf 1 1 result }
+{
+    ThreadSetup {
+        proc_no: 1,
+        program: 1,
+        arg: 0,
+        name: Msg::new(),
+    }
+}
+
 /// The threads: those that wait elsewhere, and after them the two that play. All stand in proc 1.
-fn threads(alloc: Global, waiting: u32) -> Result<Seq<ThreadSetup>, NoMemory> {
-    let count = waiting.saturating_add(2);
+fn threads(alloc: Global, waiting: u32) -> Result<Seq<ThreadSetup>, NoMemory>
+    requires { waiting + 2 ≤ MOST_THREADS }
+    ensures each { IfOk result (All (IsThreadOf 1 1)) }
+    ensures count { IfOk result (λ threads. length threads ≡ waiting + 2) }
+{
+    let count = waiting + 2;
     let mut threads = Room::new(alloc);
-    threads.reserve(count as usize)?;
     for _ in 0..count {
-        if threads.spare() > 0 {
-            threads.push(ThreadSetup {
-                proc_no: 1,
-                program: 1,
-                arg: 0,
-                name: Msg::new(),
-            });
-        }
+        threads.reserve(1)?;
+        threads.push(thread());
     }
     Ok(threads.into_seq())
 }
 
 /// The two channels of the number, and the one on which the others wait.
-fn channels(alloc: Global) -> Result<Seq<ChanSetup>, NoMemory> {
+fn channels(alloc: Global) -> Result<Seq<ChanSetup>, NoMemory>
+    ensures each { IfOk result (All IsChan) }
+    ensures three { IfOk result (λ channels. length channels ≡ 3) }
+{
     let channel = ChanSetup { cap: 0, elsize: 8 };
     let mut channels = Room::new(alloc);
     channels.reserve(3)?;
@@ -35,7 +48,8 @@ fn channels(alloc: Global) -> Result<Seq<ChanSetup>, NoMemory> {
 
 /// What a run with so many threads waiting elsewhere starts from.
 pub(crate) fn setup_of(alloc: Global, waiting: u32) -> Result<Setup, NoMemory>
-    ensures { IfOk result IsPlain }
+    requires { waiting + 2 ≤ MOST_THREADS }
+    ensures { IfOk result IsValid }
 {
     Ok(Setup {
         places: 1,

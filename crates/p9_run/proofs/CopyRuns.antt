@@ -15,7 +15,6 @@ use Rattle.p9_laws.specs.RunReplies.{reply_at}
 use Rattle.p9_manual.specs.FilesInHistory.{services_at}
 use Rattle.p9_outside.specs.declared.files.FilesFault.{FilesFault}
 use Rattle.p9_outside.specs.declared.files.FilesFault.TheVariants.{Failed, Memory}
-use Rattle.p9_machine.specs.Plain.{IsPlain}
 use Rattle.p9_outside.specs.Causes.{CountsFault, is_failed, is_failure}
 use Rattle.p9_outside.specs.Contents.{Told, Stay, Opens, IsFresh, Puts}
 use Rattle.p9_outside.specs.FileRuns.{UntoldAreFull}
@@ -37,11 +36,6 @@ use Rattle.p9_run.specs.declared.report.RunEnd.{RunEnd}
 -- no history is a run of a copy's text
 pub no_history : IsCopyHistory []
 no_history = record { legal = tt; files = history_none copy_asks }
-
--- the setup of a copy is one that machines have so far
-pub copy_is_plain : IsPlain copy_setup
-copy_is_plain =
-    record { locks = refl; qlocks = refl; rwlocks = refl; rendezes = refl }
 
 front_none : (o : Option (List ℕ)) → IsFrontOf [] o
 front_none None = refl

@@ -5,7 +5,7 @@ use Rattle.p9_word.specs.declared.trail.Seat.{Seat}
 use Rattle.p9_manual.specs.Step.{outcome}
 use Rattle.p9_machine.specs.Board.{Gives}
 use Rattle.p9_machine.specs.Reserved.{IsFor, event_of}
-use Rattle.p9_machine.proofs.Staying.{counts}
+use Rattle.p9_machine.proofs.Dispatch.{counts}
 use Rattle.p9_machine.proofs.entries.enter.Goals as goal
 
 pub put_entry-requires-clause-told : goal.put_entry-requires-clause-told

@@ -2,8 +2,7 @@ use Rattle.std.proofs.Common.{refl, ◌∙◌}
 use Rattle.p9_word.specs.declared.trail.Event.TheVariants.{IoDid}
 use Rattle.p9_word.specs.declared.trail.Reply.TheVariants.{Stray}
 use Rattle.p9_word.specs.declared.trail.Seat.TheVariants.{Proc}
-use Rattle.p9_machine.proofs.Dispatch.{tells_nothing}
-use Rattle.p9_machine.proofs.Staying.{counts, gives_by, unmoved}
+use Rattle.p9_machine.proofs.Dispatch.{counts, gives_by, unmoved, tells_nothing}
 use Rattle.p9_machine.proofs.entries.record.Goals as goal
 
 pub returns-in-Proc-clause-does : goal.returns-in-Proc-clause-does

@@ -2,8 +2,7 @@ use Rattle.std.proofs.Common.{List, length, ap, ◌∙◌}
 use Rattle.p9_word.specs.declared.trail.Entry.{Entry}
 use Rattle.p9_word.specs.declared.trail.Event.TheVariants.{IoDid}
 use Rattle.p9_word.specs.declared.trail.Seat.TheVariants.{Io as IoSeat}
-use Rattle.p9_machine.proofs.Dispatch.{did_is}
-use Rattle.p9_machine.proofs.Staying.{counts, gives_by}
+use Rattle.p9_machine.proofs.Dispatch.{counts, gives_by, did_is}
 use Rattle.p9_machine.proofs.entries.record_at.Goals as goal
 
 pub returns-clause-does : goal.returns-clause-does

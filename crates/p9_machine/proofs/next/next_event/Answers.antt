@@ -1,6 +1,6 @@
 use Rattle.std.proofs.Common.{refl, sym, ◌∙◌}
 use Rattle.p9_word.specs.declared.trail.Reply.TheVariants.{Stray, Over}
-use Rattle.p9_machine.proofs.Staying.{unmoved, gives_by}
+use Rattle.p9_machine.proofs.Dispatch.{unmoved, gives_by}
 use Rattle.p9_machine.proofs.Turning.{some_runs, next_off, next_over, next_stray, next_runs}
 use Rattle.p9_machine.proofs.next.next_event.Goals as goal
 

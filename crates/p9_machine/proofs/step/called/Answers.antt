@@ -1,8 +1,7 @@
 use Rattle.std.proofs.Common.{refl, sym}
 use Rattle.p9_word.specs.declared.trail.Reply.TheVariants.{Stray}
 use Rattle.p9_machine.specs.Reserved.{request_of}
-use Rattle.p9_machine.proofs.Dispatch.{called_strays, called_serves}
-use Rattle.p9_machine.proofs.Staying.{unmoved, gives_by}
+use Rattle.p9_machine.proofs.Dispatch.{unmoved, gives_by, called_strays, called_serves}
 use Rattle.p9_machine.proofs.step.called.Goals as goal
 
 pub returns-then-runs_there-clause-gives : goal.returns-then-runs_there-clause-gives

@@ -4,8 +4,7 @@ use Rattle.p9_manual.specs.State.{by_id}
 use Rattle.p9_sched.specs.Turns.{answer_next}
 use Rattle.p9_machine.specs.Copies.{IsOfNext, IsOfPosted}
 use Rattle.p9_machine.specs.Reserved.{request_of, message_for}
-use Rattle.p9_machine.proofs.Dispatch.{call_is, next_is, take_is, strays}
-use Rattle.p9_machine.proofs.Staying.{unmoved, gives_by}
+use Rattle.p9_machine.proofs.Dispatch.{unmoved, gives_by, call_is, next_is, take_is, strays}
 use Rattle.p9_machine.proofs.Told.{told_next, told_take}
 use Rattle.p9_machine.proofs.step.outcome.Goals as goal
 

@@ -12,7 +12,7 @@ invariant_of-result c =
     let same = c.in_ok-board.ensures.setup in
     let stands = subst (λ (s : State). Stands c.in_ok-board.board s) (sym (state_after-begin c.args.setup.now)) c.in_ok-board.ensures.board in
     record {
-      valid = subst (λ (S : Setup). IsValid S) (sym same) c.requires.valid;
+      valid = subst (λ (S : Setup). IsValid S) (sym same) c.requires;
       board = rw c.new.ensures.items (subst (λ (S : Setup). Stands c.in_ok-board.board (state_after S [])) (sym same) stands);
       legal = rw c.new.ensures.items tt;
       counted = rw c.new.ensures.items (sym c.in_ok-board.ensures.board.position);

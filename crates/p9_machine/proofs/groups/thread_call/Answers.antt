@@ -1,6 +1,6 @@
 use Rattle.p9_machine.proofs.Ending.{exits, exits_all}
-use Rattle.p9_machine.proofs.Staying.{gives_by}
-use Rattle.p9_machine.proofs.step.thread_call.Goals as goal
+use Rattle.p9_machine.proofs.Dispatch.{gives_by}
+use Rattle.p9_machine.proofs.groups.thread_call.Goals as goal
 
 pub returns-in-ThreadExits-clause-gives : goal.returns-in-ThreadExits-clause-gives
 returns-in-ThreadExits-clause-gives c = λ s st sound.

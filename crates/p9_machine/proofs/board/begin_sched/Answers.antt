@@ -1,6 +1,6 @@
 use Rattle.std.proofs.Common.{take}
 use Rattle.p9_machine.proofs.Beginning.{none_stand, one_more, place_of_first, few_first, first_state, first_stand}
-use Rattle.p9_machine.proofs.begin.begin_sched.Goals as goal
+use Rattle.p9_machine.proofs.board.begin_sched.Goals as goal
 
 pub loop-thread-init : goal.loop-thread-init
 loop-thread-init c = none_stand c.args.setup.now c.in_ok-sched.sched c.in_ok-sched.ensures

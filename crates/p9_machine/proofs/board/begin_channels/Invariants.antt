@@ -1,6 +1,6 @@
 use Rattle.std.proofs.Common.{◌≡◌, [], map, take}
 use Rattle.p9_manual.specs.History.{new_channel}
-use Rattle.p9_machine.proofs.begin.begin_channels.Given as goal
+use Rattle.p9_machine.proofs.board.begin_channels.Given as goal
 
 abbrev pub invariant-loop-c : goal.invariant-loop-c
 invariant-loop-c l = record {

@@ -2,7 +2,7 @@ use Rattle.std.proofs.Common.{◌≡◌, ◌+◌, List, length, ap, sym, ◌∙�
 use Rattle.p9_manual.specs.declared.state.Thread.{Thread}
 use Rattle.p9_manual.specs.Create.{with_thread}
 use Rattle.p9_machine.proofs.Beginning.{stands_first}
-use Rattle.p9_machine.proofs.begin.add_first.Goals as goal
+use Rattle.p9_machine.proofs.board.add_first.Goals as goal
 
 pub returns-in-Some : goal.returns-in-Some
 returns-in-Some c = λ places s stand h.

@@ -1,5 +1,5 @@
 use Rattle.p9_machine.proofs.Dispatch.{chans_served}
-use Rattle.p9_machine.proofs.step.chan_call.Goals as goal
+use Rattle.p9_machine.proofs.groups.chan_call.Goals as goal
 
 pub returns-clause-gives : goal.returns-clause-gives
 returns-clause-gives c = λ s st sound.
