@@ -19,6 +19,7 @@ pub mod LockWaits
 pub mod Locks
 pub mod MeetCalls
 pub mod Next
+pub mod Notes
 pub mod Offers
 pub mod Places
 pub mod Programs

@@ -31,6 +31,12 @@ pub const MOST_RENDEZES: usize = 1_024;
 /// The most Refs. incref in lock(2).
 pub const MOST_REFS: usize = 1_024;
 
+/// The most handlers of notes that a proc has. notify(2).
+pub const MOST_HANDLERS: usize = 32;
+
+/// The most bytes of a note, and of the prefix of a handler. notify(2).
+pub const MOST_NOTE_BYTES: usize = 127;
+
 /// The most files of a run, and so ioprocs. ioproc(2).
 pub const MOST_FILES: u32 = 64;
 
