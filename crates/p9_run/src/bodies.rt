@@ -24,6 +24,8 @@ pub(crate) struct Bodies<B> {
     pub(crate) requests: Numbered<Request>,
     /// Which thread runs in a proc, by the procs' numbers.
     pub(crate) running: Numbered<Tid>,
+    /// Whether a request on ioprocs was made since their last turns. Without one none has a call to take.
+    pub(crate) asks_ioprocs: bool,
 }
 
 impl<B: Body + Drop> Bodies<B> {
@@ -33,6 +35,7 @@ impl<B: Body + Drop> Bodies<B> {
             by_thread: Numbered::new(alloc),
             requests: Numbered::new(alloc),
             running: Numbered::new(alloc),
+            asks_ioprocs: false,
         }
     }
 

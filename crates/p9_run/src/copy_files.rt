@@ -60,10 +60,18 @@ fn fails_at(entry: &Entry, k: u32) -> bool
     }
 }
 
-fn failed_at(entries: &[Entry], k: u32) -> bool
-    ensures { result ≡ failed_at k entries.now }
+/// Whether a call on file 1 failed, and whether one on file 2 did. A trail may be long, and is gone through once.
+fn failed_files(entries: &[Entry]) -> (bool, bool)
+    ensures first { result.0 ≡ failed_at 1 entries.now }
+    ensures second { result.1 ≡ failed_at 2 entries.now }
 {
-    entries.iter().any(|entry| fails_at(entry, k))
+    let mut first = false;
+    let mut second = false;
+    for entry in entries {
+        first |= fails_at(entry, 1);
+        second |= fails_at(entry, 2);
+    }
+    (first, second)
 }
 
 fn is_stuck(reply: &Reply) -> bool
@@ -104,14 +112,11 @@ fn run_end(entries: &[Entry], closed: Result<(), FilesFault>) -> Result<RunEnd, 
         Err(FilesFault::Failed) => Some(FileFault::Close),
         Err(FilesFault::Memory) => return Err(NoMemory),
     };
+    let (input, output) = failed_files(entries);
     Ok(RunEnd {
         stuck: ends_stuck(entries),
-        input: if failed_at(entries, 1) {
-            Some(FileFault::Read)
-        } else {
-            None
-        },
-        output: if failed_at(entries, 2) {
+        input: if input { Some(FileFault::Read) } else { None },
+        output: if output {
             Some(FileFault::Write)
         } else {
             close

@@ -12,7 +12,7 @@ ghost use Rattle.p9_run.specs.declared.proc_turn.Chosen.TheVariants.{Over as Pro
 
 use crate::bodies::{Bodies, Running};
 use crate::engine::Engine;
-use p9_word::{Answer, Body, NoMemory, Programs, Reply, Tid};
+use p9_word::{Answer, Body, NoMemory, Programs, Reply, Request, Tid};
 
 /// What a proc does next.
 #[derive(Clone, Copy)]
@@ -81,6 +81,7 @@ fn make_request<E: Engine, B: Body + Drop>(
     let Some(request) = bodies.requests.take(tid) else {
         return Ok(false);
     };
+    bodies.asks_ioprocs |= matches!(&request, Request::Io(_));
     match engine.call(p, tid, request)? {
         Reply::Now(last) => {
             let Some(body) = bodies.by_thread.take(tid) else {

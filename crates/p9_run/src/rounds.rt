@@ -13,15 +13,23 @@ use crate::io_turn::io_turn;
 use crate::proc_turn::proc_turn;
 use p9_outside::Device;
 use p9_word::{NoMemory, Programs};
+use std::mem;
 use std::sync::Wait;
 
-/// One turn of each ioproc. The first device serves ioproc 1, and the others those after it.
-fn io_turns<E: Engine, D: Device>(engine: &mut E, devices: &mut [D]) -> Result<(), NoMemory>
+/// One turn of each ioproc, if they may have a call. The first device serves ioproc 1, and the others those after it.
+fn io_turns<E: Engine, D: Device>(
+    engine: &mut E,
+    devices: &mut [D],
+    may_have_calls: bool,
+) -> Result<(), NoMemory>
     requires { length devices.old + 1 < 2 ^ 32 }
     ensures setup { E.setup engine.new ≡ E.setup engine.old }
     ensures threads { TouchesNoThread (E.entries engine.old) (E.entries engine.new) }
     ensures devices { AllServeOn D.serves (E.entries engine.old) devices.old (E.entries engine.new) devices.new }
 {
+    if !may_have_calls {
+        return Ok(());
+    }
     let mut k = 1;
     for device in devices.iter_mut() {
         io_turn(engine, k, device)?;
@@ -54,7 +62,7 @@ fn proc_turns<E: Engine, P: Programs>(
     Ok(all_over)
 }
 
-/// Gives each proc and then each ioproc a turn, round after round, until all procs are over.
+/// Gives each proc and then each ioproc that may have a call a turn, round after round, until all procs are over.
 ///
 /// Where memory is wanted it stops. Then too the calls are those of the programs, each device has served
 /// the calls taken at its ioproc, and no call is left begun.
@@ -80,7 +88,8 @@ pub(crate) fn run_rounds<R: Wait, E: Engine, P: Programs, D: Device>(
         if all_over {
             return Ok(());
         }
-        io_turns(engine, devices)?;
+        let may_have_calls = mem::replace(&mut bodies.asks_ioprocs, false);
+        io_turns(engine, devices, may_have_calls)?;
     }
     unreachable!()
 }

@@ -2,11 +2,11 @@
 #![tactic(auto)]
 
 use p9_outside::{RealFiles, StdSink, StdSource};
-use p9_run::pipe_main;
+use p9_run::{Outcome, pipe_main};
 use std::io::ErrorKind;
 use std::process::ExitCode;
 use std::rt::Env;
-use std::{env, io};
+use std::{env, io, mem};
 
 /// The words after the program's name.
 fn words<R: Env + AllocGlobal>(rt: &R) -> io::Result<Vec<String>> {
@@ -28,6 +28,13 @@ fn main(rt: HostRuntime) -> ExitCode {
     let input = StdSource::new(rt.stdin());
     let out = StdSink::new(rt.stdout());
     let mut err = StdSink::new(rt.stderr());
-    let outcome = pipe_main(&rt, alloc, &words, &mut files, input, out, &mut err);
-    ExitCode::from(outcome.status)
+    let Outcome {
+        status,
+        trail,
+        input: _,
+        out: _,
+    } = pipe_main(&rt, alloc, &words, &mut files, input, out, &mut err);
+    // The system takes the memory of the trail back at once, where the program would let go of it piece by piece.
+    mem::forget(trail);
+    ExitCode::from(status)
 }
