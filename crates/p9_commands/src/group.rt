@@ -1,3 +1,6 @@
+ghost use Rattle.std.specs.Prelude.{◌≡◌, IfOk};
+ghost use Rattle.p9_commands.specs.Pattern.{pattern_of};
+
 use crate::fault::Fault;
 use p9_outside::MemFiles;
 use p9_word::{Msg, NoMemory};
@@ -21,7 +24,9 @@ pub(crate) struct Group<'a> {
 }
 
 /// So many bytes, which differ from place to place.
-fn pattern(alloc: Global, len: usize) -> Result<Vec<u8>, AllocError> {
+fn pattern(alloc: Global, len: usize) -> Result<Vec<u8>, AllocError>
+    ensures { IfOk result (λ bytes. bytes.items ≡ pattern_of len) }
+{
     let mut bytes = Vec::new(alloc);
     for i in 0..len {
         bytes.push((i % 251) as u8)?;

@@ -1,3 +1,6 @@
+ghost use Rattle.std.specs.Prelude.{◌≡◌};
+ghost use Rattle.p9_commands.specs.Through.{after};
+
 use p9_word::{Effect, Event, Trail};
 
 /// What went through the files of a run.
@@ -13,7 +16,9 @@ pub(crate) struct Moved {
 
 impl Moved {
     /// With what came of one call on a file.
-    fn with(self, effect: &Effect) -> Moved {
+    fn with(self, effect: &Effect) -> Moved
+        ensures { result ≡ after effect.now self }
+    {
         match effect {
             Effect::Got { failed, bytes } => Moved {
                 read: self.read.saturating_add(bytes.as_slice().len()),
