@@ -43,6 +43,8 @@ pub enum Answer {
     NoBlock,
     /// The channel is closed.
     Closed,
+    /// The wait was ended by an interrupt, a kill or a note, and what was asked for was not done. thread(2), notify(2).
+    Interrupted,
     /// A number: what it counts is said at each request.
     Number(u64),
     /// There is no room for what was asked for, or no number to tell; nothing has changed.
@@ -99,6 +101,7 @@ impl Datum for Answer {
             }),
             Answer::NoBlock => Ok(Answer::NoBlock),
             Answer::Closed => Ok(Answer::Closed),
+            Answer::Interrupted => Ok(Answer::Interrupted),
             Answer::Number(n) => Ok(Answer::Number(*n)),
             Answer::Minus => Ok(Answer::Minus),
             Answer::Text(text) => Ok(Answer::Text(text.copied(alloc)?)),
@@ -135,6 +138,7 @@ impl Datum for Answer {
             }
             (Answer::NoBlock, Answer::NoBlock) => true,
             (Answer::Closed, Answer::Closed) => true,
+            (Answer::Interrupted, Answer::Interrupted) => true,
             (Answer::Number(a), Answer::Number(b)) => a == b,
             (Answer::Minus, Answer::Minus) => true,
             (Answer::Text(a), Answer::Text(b)) => a.is_same(b),

@@ -26,7 +26,7 @@ pub use datum::Datum;
 pub use io_call::{Effect, IoCall};
 pub use memory::NoMemory;
 pub use msg::Msg;
-pub use request::{ChanReq, IoReq, LockReq, Request, ThreadReq, Tid};
+pub use request::{ChanReq, IoReq, LockReq, Request, SignalReq, ThreadReq, Tid};
 pub use room::Room;
 pub use seq::Seq;
 pub use setup::{ChanSetup, Setup, ThreadSetup};

@@ -41,6 +41,29 @@ pub enum ThreadReq {
     ProcSetWord { word: u64 },
 }
 
+/// A request that interrupts or kills threads, or is about notes. thread(2), notify(2).
+#[derive(Drop)]
+pub enum SignalReq {
+    /// Ends the wait of a thread that waits in a request on channels or in a rendezvous, which is told `Interrupted`; on any other
+    /// thread it has no effect. `Number` of the waits that it ended, 0 or 1, or `Bad` where that thread was never made.
+    ThreadInt { tid: Tid },
+    /// Marks a thread that lives to die, and interrupts it as `ThreadInt` does: from then on it ends at its first request that lets
+    /// others run, which has no other effect. `Number` of the waits that it ended, or `Bad` where that thread was never made.
+    ThreadKill { tid: Tid },
+    /// Interrupts each living thread of a group, by rising id: `Number` of the waits that it ended.
+    ThreadIntGrp { group: u32 },
+    /// Kills each living thread of a group, by rising id: `Number` of the waits that it ended.
+    ThreadKillGrp { group: u32 },
+    /// With `on`, adds a handler of notes of the caller's proc last: `Number(1)`, or `Number(0)` where it has 32. Else removes the
+    /// first one with this id, whatever its prefix: `Number(1)`, or `Number(0)` where none has it. `Bad` where the prefix has more
+    /// than 127 bytes.
+    ThreadNotify { on: bool, id: u32, prefix: Msg },
+    /// Puts a note last among the pending ones of a proc, and interrupts the thread of it that waits in a rendezvous, if one does:
+    /// `Done`. At its next turn the proc's first handler whose prefix begins the note catches it, or else all threads of the proc
+    /// end. `Bad` where no thread of that proc lives, or the note has more than 127 bytes.
+    PostNote { proc_no: u32, note: Msg },
+}
+
 /// A request on channels, by their ids from 1: `Bad` where it names a channel that was never made or was
 /// freed. thread(2).
 #[derive(Drop)]
@@ -186,6 +209,8 @@ pub enum IoReq {
 pub enum Request {
     /// On threads.
     Thread(ThreadReq),
+    /// To interrupt or kill threads, or on notes.
+    Signal(SignalReq),
     /// On channels.
     Chan(ChanReq),
     /// On locks.
@@ -264,6 +289,53 @@ impl Datum for ThreadReq {
             (ThreadReq::ThreadSetWord { word: a }, ThreadReq::ThreadSetWord { word: b }) => a == b,
             (ThreadReq::ProcWord, ThreadReq::ProcWord) => true,
             (ThreadReq::ProcSetWord { word: a }, ThreadReq::ProcSetWord { word: b }) => a == b,
+            _ => false,
+        }
+    }
+}
+
+impl Datum for SignalReq {
+    fn copied(&self, alloc: Global) -> Result<SignalReq, NoMemory> {
+        match self {
+            SignalReq::ThreadInt { tid } => Ok(SignalReq::ThreadInt { tid: *tid }),
+            SignalReq::ThreadKill { tid } => Ok(SignalReq::ThreadKill { tid: *tid }),
+            SignalReq::ThreadIntGrp { group } => Ok(SignalReq::ThreadIntGrp { group: *group }),
+            SignalReq::ThreadKillGrp { group } => Ok(SignalReq::ThreadKillGrp { group: *group }),
+            SignalReq::ThreadNotify { on, id, prefix } => Ok(SignalReq::ThreadNotify {
+                on: *on,
+                id: *id,
+                prefix: prefix.copied(alloc)?,
+            }),
+            SignalReq::PostNote { proc_no, note } => Ok(SignalReq::PostNote {
+                proc_no: *proc_no,
+                note: note.copied(alloc)?,
+            }),
+        }
+    }
+
+    fn is_same(&self, other: &SignalReq) -> bool {
+        match (self, other) {
+            (SignalReq::ThreadInt { tid: a }, SignalReq::ThreadInt { tid: b }) => a == b,
+            (SignalReq::ThreadKill { tid: a }, SignalReq::ThreadKill { tid: b }) => a == b,
+            (SignalReq::ThreadIntGrp { group: a }, SignalReq::ThreadIntGrp { group: b }) => a == b,
+            (SignalReq::ThreadKillGrp { group: a }, SignalReq::ThreadKillGrp { group: b }) => {
+                a == b
+            }
+            (
+                SignalReq::ThreadNotify { on, id, prefix },
+                SignalReq::ThreadNotify {
+                    on: other_on,
+                    id: other_id,
+                    prefix: other_prefix,
+                },
+            ) => on == other_on && id == other_id && prefix.is_same(other_prefix),
+            (
+                SignalReq::PostNote { proc_no, note },
+                SignalReq::PostNote {
+                    proc_no: other_proc_no,
+                    note: other_note,
+                },
+            ) => proc_no == other_proc_no && note.is_same(other_note),
             _ => false,
         }
     }
@@ -427,6 +499,7 @@ impl Datum for Request {
     fn copied(&self, alloc: Global) -> Result<Request, NoMemory> {
         match self {
             Request::Thread(request) => Ok(Request::Thread(request.copied(alloc)?)),
+            Request::Signal(request) => Ok(Request::Signal(request.copied(alloc)?)),
             Request::Chan(request) => Ok(Request::Chan(request.copied(alloc)?)),
             Request::Lock(request) => Ok(Request::Lock(request.copied(alloc)?)),
             Request::Io(request) => Ok(Request::Io(request.copied(alloc)?)),
@@ -436,6 +509,7 @@ impl Datum for Request {
     fn is_same(&self, other: &Request) -> bool {
         match (self, other) {
             (Request::Thread(a), Request::Thread(b)) => a.is_same(b),
+            (Request::Signal(a), Request::Signal(b)) => a.is_same(b),
             (Request::Chan(a), Request::Chan(b)) => a.is_same(b),
             (Request::Lock(a), Request::Lock(b)) => a.is_same(b),
             (Request::Io(a), Request::Io(b)) => a.is_same(b),

@@ -1,4 +1,4 @@
-use crate::{Answer, Datum, Effect, IoCall, NoMemory, Request, Room, Tid};
+use crate::{Answer, Datum, Effect, IoCall, Msg, NoMemory, Request, Room, Tid};
 use std::alloc::Global;
 
 /// Who makes an event: a proc, or an ioproc, by its number from 1.
@@ -37,6 +37,10 @@ pub enum Reply {
     Begin(Tid, u32, u64),
     /// This thread runs on with the answer of its last request.
     Turn(Tid, Answer),
+    /// The handler with this id has caught a note of the proc. notify(2).
+    Caught(u32),
+    /// No handler has caught this note, and all threads of the proc have ended. notify(2).
+    Died(Msg),
     /// There is nothing to do now.
     Idle,
     /// There will be nothing to do any more.
@@ -104,6 +108,8 @@ impl Datum for Reply {
             Reply::Ended => Ok(Reply::Ended),
             Reply::Begin(t, program, arg) => Ok(Reply::Begin(*t, *program, *arg)),
             Reply::Turn(t, answer) => Ok(Reply::Turn(*t, answer.copied(alloc)?)),
+            Reply::Caught(id) => Ok(Reply::Caught(*id)),
+            Reply::Died(note) => Ok(Reply::Died(note.copied(alloc)?)),
             Reply::Idle => Ok(Reply::Idle),
             Reply::Over => Ok(Reply::Over),
             Reply::Stuck => Ok(Reply::Stuck),
@@ -124,6 +130,8 @@ impl Datum for Reply {
             (Reply::Turn(t, answer), Reply::Turn(u, other_answer)) => {
                 t == u && answer.is_same(other_answer)
             }
+            (Reply::Caught(a), Reply::Caught(b)) => a == b,
+            (Reply::Died(a), Reply::Died(b)) => a.is_same(b),
             (Reply::Idle, Reply::Idle) => true,
             (Reply::Over, Reply::Over) => true,
             (Reply::Stuck, Reply::Stuck) => true,
