@@ -85,9 +85,13 @@ with_hold sort.Write t k h = with_rwlock k (record (rw_at k h) { writer = Some t
 -- lock, qlock, rlock, wlock: the caller gets the lock, or waits for it behind all others
 abbrev pub claim : Sort → ℕ → ℕ → Holds → List LockWaiter → Claim
 claim s t k h waits =
-    if can_get s k h waits then record { got = true; holds = with_hold s t k h; waits = waits } else record { got = false; holds = h; waits = joined t (wait.Lock s k) 0 waits }
+    if can_get s k h waits
+    then record { got = true; holds = with_hold s t k h; waits = waits }
+    else record { got = false; holds = h; waits = joined t (wait.Lock s k) 0 waits }
 
 -- canlock, canqlock, canrlock, canwlock: the caller gets the lock, or nothing happens
 abbrev pub attempt : Sort → ℕ → ℕ → Holds → List LockWaiter → Claim
 attempt s t k h waits =
-    if can_get s k h waits then record { got = true; holds = with_hold s t k h; waits = waits } else record { got = false; holds = h; waits = waits }
+    if can_get s k h waits
+    then record { got = true; holds = with_hold s t k h; waits = waits }
+    else record { got = false; holds = h; waits = waits }

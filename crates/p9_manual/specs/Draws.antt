@@ -1,4 +1,5 @@
--- The draws by which alt chooses among several ready entries: random numbers of 32 bits, of one generator for the whole run. This project's own.
+-- The draws by which alt chooses among several ready entries: random numbers of 32 bits, of one generator for the whole run. This
+-- project's own.
 use Rattle.std.specs.Prelude.{ℕ}
 use Rattle.rand_pcg.specs.Lcg.{Lcg, started, increment_of, advance}
 use Rattle.rand_pcg.specs.Pcg.{multiplier_64, pcg32}

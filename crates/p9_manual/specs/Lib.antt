@@ -13,12 +13,14 @@ pub mod FilesInHistory
 pub mod Held
 pub mod History
 pub mod Holds
+pub mod Interrupt
 pub mod Ioprocs
 pub mod LockCalls
 pub mod LockWaits
 pub mod Locks
 pub mod MeetCalls
 pub mod Next
+pub mod NoteCalls
 pub mod Notes
 pub mod Offers
 pub mod Places
@@ -26,9 +28,11 @@ pub mod Programs
 pub mod Queues
 pub mod ReadyEntries
 pub mod Refs
+pub mod Relinquish
 pub mod Rendez
 pub mod RendezCalls
 pub mod Rendezvous
+pub mod Signals
 pub mod Sound
 pub mod SoundLocks
 pub mod Standing

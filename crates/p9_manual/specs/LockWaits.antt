@@ -3,7 +3,7 @@
 use Rattle.std.specs.Prelude.{ℕ, ◌==◌, ◌&&◌, ◌++◌, Bool, true, false, List, [], ◌∷◌, Option, Some, None, if◌then◌else◌}
 use Rattle.std.specs.List.{flat_map, list_any}
 use Rattle.p9_word.specs.declared.request.Request.{Request}
-use Rattle.p9_word.specs.declared.request.Request.TheVariants.{Thread as ThreadRequest, Chan as ChanRequest, Lock as LockRequest, Io as IoRequest}
+use Rattle.p9_word.specs.declared.request.Request.TheVariants.{Thread as ThreadRequest, Signal as SignalRequest, Chan as ChanRequest, Lock as LockRequest, Io as IoRequest}
 use Rattle.p9_word.specs.declared.request.LockReq.{LockReq}
 use Rattle.p9_word.specs.declared.request.LockReq.TheVariants as ask
 use Rattle.p9_manual.specs.declared.locks.Sort.TheVariants as sort
@@ -37,6 +37,7 @@ wait_for (ask.DecRef k) = None
 abbrev pub lock_wait_of : Request → Option (LockWait × ℕ)
 lock_wait_of (LockRequest r) = wait_for r
 lock_wait_of (ThreadRequest r) = None
+lock_wait_of (SignalRequest r) = None
 lock_wait_of (ChanRequest r) = None
 lock_wait_of (IoRequest r) = None
 

@@ -8,6 +8,8 @@ use Rattle.p9_manual.specs.declared.state.Place.{Place}
 use Rattle.p9_manual.specs.declared.state.Place.TheVariants.{Running, New, Ready, Waiting, Ended}
 use Rattle.p9_manual.specs.declared.state.Thread.{Thread}
 use Rattle.p9_manual.specs.Held.{is_held}
+use Rattle.p9_manual.specs.NoteCalls.{deliver, next_note}
+use Rattle.p9_manual.specs.Notes.{Delivery}
 use Rattle.p9_manual.specs.Places.{lives, lives_in, runs_in, is_of}
 use Rattle.p9_manual.specs.State.{State, Outcome, by_id, pick, placed, replied, same}
 use Rattle.p9_manual.specs.Stuck.{is_stuck}
@@ -50,10 +52,15 @@ next_of s (Some found) = turn found.0 (record s { line = found.1 }) (option_map 
 abbrev pub first_ready : ℕ → State → Option (ℕ × List ℕ)
 first_ready p s = if is_held p s then None else pick (λ t. is_of p (by_id s.threads t)) s.line
 
+-- a note that is pending is delivered before a thread runs, also where p is held
+abbrev pub note_first : ℕ → State → Option Delivery → Outcome
+note_first p s (Some d) = deliver p d s
+note_first p s None = next_of s (first_ready p s)
+
 -- proc p asks for its next thread
 unfoldable pub next_event : Setup → ℕ → State → Outcome
 next_event setup p s =
     if not (is_place setup p) then same Stray s
     else if is_over p s then same Over s
     else if list_any (runs_in p) s.threads then same Stray s
-    else next_of s (first_ready p s)
+    else note_first p s (next_note p s)

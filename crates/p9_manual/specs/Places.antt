@@ -60,6 +60,11 @@ abbrev pub runs_there : ℕ → Option Thread → Bool
 runs_there p None = false
 runs_there p (Some thread) = runs_in p thread
 
+-- the thread is marked to die
+abbrev pub is_marked : Option Thread → Bool
+is_marked None = false
+is_marked (Some thread) = thread.marked
+
 -- the ioproc has a call, posted or begun
 abbrev pub has_call : Ioproc → Bool
 has_call (Posted t call) = true

@@ -42,7 +42,7 @@ after_call t u request (Now a) life = if t == u then given_answer a life else li
 after_call t u request Ended life = if t == u || ends_all request then laid_down life else life
 after_call t u request reply life = life
 
--- what a reply to a turn of a proc does to thread t
+-- what a reply to a turn of a proc does to thread t. One that ends by a note is asked for nothing more, whatever is said of it here
 abbrev pub after_next : ℕ → Reply → Life → Life
 after_next t (Begin u program arg) life = if t == u then Lives program arg (Done ∷ []) else life
 after_next t (Turn u a) life = if t == u then given_answer a life else life

@@ -47,13 +47,17 @@ writer_first k waits = writer_of k (find (waits_at_rw k) waits)
 abbrev pub readers_in : ℕ → List LockWaiter → List ℕ
 readers_in k [] = []
 readers_in k (w ∷ ws) =
-    if waits_for (wait.Lock sort.Write k) w then [] else (if waits_for (wait.Lock sort.Read k) w then w.tid ∷ readers_in k ws else readers_in k ws)
+    if waits_for (wait.Lock sort.Write k) w then []
+    else if waits_for (wait.Lock sort.Read k) w then w.tid ∷ readers_in k ws
+    else readers_in k ws
 
 -- the waits without those readers
 abbrev pub readers_left : ℕ → List LockWaiter → List LockWaiter
 readers_left k [] = []
 readers_left k (w ∷ ws) =
-    if waits_for (wait.Lock sort.Write k) w then w ∷ ws else (if waits_for (wait.Lock sort.Read k) w then readers_left k ws else w ∷ readers_left k ws)
+    if waits_for (wait.Lock sort.Write k) w then w ∷ ws
+    else if waits_for (wait.Lock sort.Read k) w then readers_left k ws
+    else w ∷ readers_left k ws
 
 -- thread t waits for this, behind all others; with a tag it brings a value
 abbrev pub joined : ℕ → LockWait → ℕ → List LockWaiter → List LockWaiter

@@ -1,11 +1,11 @@
 -- What holds of the state after every history. This project's own.
 use Rattle.std.specs.Prelude.{ℕ, ◌≡◌, ◌≤◌, ◌==◌, ◌+◌, ◌||◌, ◌⊎◌, All, Bool, true, false, List, [], ◌∷◌, Option, Some, None, if◌then◌else◌, length, map}
-use Rattle.std.specs.List.{flat_map}
+use Rattle.std.specs.List.{flat_map, list_any}
 use Rattle.std.specs.Option.{is_some}
 use Rattle.p9_word.specs.Setup.{IsBetween}
 use Rattle.p9_word.specs.declared.setup.Setup.{Setup}
 use Rattle.p9_word.specs.declared.request.Request.{Request}
-use Rattle.p9_word.specs.declared.request.Request.TheVariants.{Thread as ThreadRequest, Chan as ChanRequest, Lock as LockRequest, Io as IoRequest}
+use Rattle.p9_word.specs.declared.request.Request.TheVariants.{Thread as ThreadRequest, Signal as SignalRequest, Chan as ChanRequest, Lock as LockRequest, Io as IoRequest}
 use Rattle.p9_word.specs.declared.request.IoReq.TheVariants.{IoRun}
 use Rattle.p9_word.specs.declared.io_call.IoCall.{IoCall}
 use Rattle.p9_manual.specs.declared.state.Thread.{Thread}
@@ -19,8 +19,10 @@ use Rattle.p9_manual.specs.Standing.{StandOnce, IsRising, times}
 use Rattle.p9_manual.specs.Offers.{alternation, parties}
 use Rattle.p9_manual.specs.AltEntries.{sends_on, receives_on, waits_on}
 use Rattle.p9_manual.specs.ReadyEntries.{has_room, has_element}
+use Rattle.p9_manual.specs.NoteCalls.{note_in}
+use Rattle.p9_manual.specs.Places.{lives_in}
 use Rattle.p9_manual.specs.SoundLocks.{WaitInTurn}
-use Rattle.p9_manual.specs.State.{State, by_id}
+use Rattle.p9_manual.specs.State.{State, Proc, by_id}
 
 -- a thread is in one of the open procs and has one of the programs
 pub record IsThreadIn (opened programs : ℕ) (t : Thread) : Type 0 where
@@ -34,6 +36,7 @@ can_wait (LockRequest r) = is_some (wait_for r)
 can_wait (IoRequest (IoRun k call)) = true
 can_wait (IoRequest r) = false
 can_wait (ThreadRequest r) = false
+can_wait (SignalRequest r) = false
 
 -- no send waits on this channel: it is closed or has room, or isn't there
 abbrev pub takes_sends : Option Channel → Bool
@@ -54,7 +57,8 @@ pub record WaitRightly (chans : List Channel) (waits : List Waiter) : Type 0 whe
   -- nobody waits to receive where a receive goes on at once
   pub receives : (c : ℕ) → takes_receives (by_id chans c) ≡ true → times (receives_on c) (parties waits) ≡ 0
   -- on each channel no thread waits to send, or none to receive, or only one thread waits
-  pub unpaired : (c : ℕ) → (times (sends_on c) (parties waits) ≡ 0) ⊎ ((times (receives_on c) (parties waits) ≡ 0) ⊎ (times (waits_on c) (parties waits) ≤ 1))
+  pub unpaired : (c : ℕ)
+      → (times (sends_on c) (parties waits) ≡ 0) ⊎ ((times (receives_on c) (parties waits) ≡ 0) ⊎ (times (waits_on c) (parties waits) ≤ 1))
 
 -- a channel has at most as many elements as its capacity says
 abbrev pub IsWithin : Channel → Type 0
@@ -98,6 +102,10 @@ pub record CallsMatch (ioprocs : List Ioproc) (waits : List Waiter) : Type 0 whe
   -- the message in a call has at most 4,294,967,295 bytes
   pub messages : (k : ℕ) → message_at (by_id ioprocs k) ≤ 4294967295
 
+-- a proc with a pending note has a living thread
+abbrev pub AreNotesRead : List Proc → List Thread → Type 0
+AreNotesRead procs threads = (p : ℕ) → is_some (note_in (by_id procs p)) ≡ true → list_any (lives_in p) threads ≡ true
+
 -- a sound state of a setup
 pub record IsSound (setup : Setup) (s : State) : Type 0 where
   -- each thread stands where its place says
@@ -116,3 +124,5 @@ pub record IsSound (setup : Setup) (s : State) : Type 0 where
   pub order : InOrder s.position s.waits
   -- ioprocs and the threads that wait for them agree
   pub calls : CallsMatch s.ioprocs s.waits
+  -- no note is pending where nobody lives
+  pub notes : AreNotesRead s.procs s.threads

@@ -61,6 +61,11 @@ changed f [] i = []
 changed f (x ∷ xs) zero = f x ∷ xs
 changed f (x ∷ xs) (suc i) = x ∷ changed f xs i
 
+-- the list with f of each item and its id, where the first one has id n
+abbrev pub each_from : {A : Type 0} → (ℕ → A → A) → ℕ → List A → List A
+each_from f n [] = []
+each_from f n (x ∷ xs) = f n x ∷ each_from f (suc n) xs
+
 -- what was picked behind an item that wasn't
 abbrev pub behind : {A : Type 0} → A → Option (A × List A) → Option (A × List A)
 behind x None = None
@@ -110,10 +115,17 @@ done t a s = replied Waits (readied t a s)
 -- the caller waits with its whole request and the position of its call
 abbrev pub waiting : ℕ → Request → State → Outcome
 waiting t r s =
-    replied Waits (record s { threads = placed t Waiting s.threads; waits = s.waits ++ record { tid = t; request = r; at = s.position } ∷ [] })
+    replied Waits (record s {
+      threads = placed t Waiting s.threads;
+      waits = s.waits ++ record { tid = t; request = r; at = s.position } ∷ [];
+    })
 
 -- a thread that waits goes on: it leaves the waits, and is ready with an answer. Alts, closed channels, ioprocs, locks and
 -- rendezvous all wake by this; so the threads that an event makes ready stand in the line as woken, then new, then the caller
 abbrev pub wake : ℕ → Answer → State → State
 wake t a s =
-    record s { threads = placed t (Ready a) s.threads; line = lined (is_holding t (lock_waiters s.waits)) t s.line; waits = waits_without t s.waits }
+    record s {
+      threads = placed t (Ready a) s.threads;
+      line = lined (is_holding t (lock_waiters s.waits)) t s.line;
+      waits = waits_without t s.waits;
+    }

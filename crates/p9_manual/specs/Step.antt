@@ -1,16 +1,19 @@
 -- One event: its reply, and the state after it.
-use Rattle.std.specs.Prelude.{ℕ, ◌+◌, Bool, true, false, Some, None, if◌then◌else◌}
+use Rattle.std.specs.Prelude.{ℕ, ◌+◌, ◌&&◌, not, Bool, true, false, Some, None, if◌then◌else◌}
 use Rattle.p9_word.specs.declared.trail.Seat.{Seat}
 use Rattle.p9_word.specs.declared.trail.Seat.TheVariants.{Proc, Io as IoSeat}
 use Rattle.p9_word.specs.declared.trail.Event.{Event}
 use Rattle.p9_word.specs.declared.trail.Event.TheVariants.{Call, Next, IoTake, IoDid}
 use Rattle.p9_word.specs.declared.trail.Reply.{Reply}
-use Rattle.p9_word.specs.declared.trail.Reply.TheVariants.{Now, Waits, Ended, Begin, Turn, Idle, Over, Stuck, Stray, Took, Noted}
+use Rattle.p9_word.specs.declared.trail.Reply.TheVariants.{Now, Waits, Ended, Begin, Turn, Caught, Died, Idle, Over, Stuck, Stray, Took, Noted}
 use Rattle.p9_word.specs.declared.request.Request.{Request}
-use Rattle.p9_word.specs.declared.request.Request.TheVariants.{Thread as ThreadRequest, Chan as ChanRequest, Lock as LockRequest, Io as IoRequest}
+use Rattle.p9_word.specs.declared.request.Request.TheVariants.{Thread as ThreadRequest, Signal as SignalRequest, Chan as ChanRequest, Lock as LockRequest, Io as IoRequest}
 use Rattle.p9_word.specs.declared.setup.Setup.{Setup}
-use Rattle.p9_manual.specs.Places.{runs_there}
-use Rattle.p9_manual.specs.State.{State, Outcome, by_id, same}
+use Rattle.p9_manual.specs.Ends.{ended}
+use Rattle.p9_manual.specs.Places.{is_marked, runs_there}
+use Rattle.p9_manual.specs.Relinquish.{relinquishes}
+use Rattle.p9_manual.specs.Signals.{signal_call}
+use Rattle.p9_manual.specs.State.{State, Outcome, by_id, replied, same}
 use Rattle.p9_manual.specs.Threads.{thread_call}
 use Rattle.p9_manual.specs.Chans.{chan_call}
 use Rattle.p9_manual.specs.Locks.{lock_call}
@@ -20,13 +23,21 @@ use Rattle.p9_manual.specs.Next.{next_event}
 -- a request, by its group
 unfoldable pub served : Setup → ℕ → Request → State → Outcome
 served setup t (ThreadRequest r) s = thread_call setup t r s
+served setup t (SignalRequest r) s = signal_call t r s
 served setup t (ChanRequest r) s = chan_call setup t r s
 served setup t (LockRequest r) s = lock_call setup t r s
 served setup t (IoRequest r) s = io_call setup t r s
 
--- a request is served where its thread runs in the proc that tells it
+-- thread t, which is marked to die, ends where its request relinquishes the processor; the request has no other effect
+abbrev pub is_doomed : ℕ → Request → State → Bool
+is_doomed t r s = is_marked (by_id s.threads t) && relinquishes r
+
+-- a request is served where its thread runs in the proc that tells it, unless the thread ends instead
 unfoldable pub called : Setup → ℕ → ℕ → Request → State → Outcome
-called setup p t r s = if runs_there p (by_id s.threads t) then served setup t r s else same Stray s
+called setup p t r s =
+    if not (runs_there p (by_id s.threads t)) then same Stray s
+    else if is_doomed t r s then replied Ended (ended t s)
+    else served setup t r s
 
 -- an event, but for the position of the next entry: a proc makes calls and asks for turns, an ioproc takes calls and tells effects
 unfoldable pub outcome : Setup → Seat → Event → State → Outcome
@@ -46,6 +57,8 @@ makes_entry Waits = true
 makes_entry Ended = true
 makes_entry (Begin t program arg) = true
 makes_entry (Turn t a) = true
+makes_entry (Caught id) = true
+makes_entry (Died note) = true
 makes_entry Stuck = true
 makes_entry (Took call) = true
 makes_entry Noted = true
