@@ -51,6 +51,10 @@ pub times-none : {A B : Type 0} (f : B → Bool) (g : A → B) → ((x : A) → 
 times-none f g off [] = refl
 times-none f g off (x ∷ xs) = rw (off x, times-none f g off xs) refl
 
+pub times-map_same : {A : Type 0} (f : A → Bool) (g : A → A) → ((x : A) → f (g x) ≡ f x) → (xs : List A) → times f (map g xs) ≡ times f xs
+times-map_same f g e [] = refl
+times-map_same f g e (x ∷ xs) = rw (e x, times-map_same f g e xs) refl
+
 without_step : (b : Bool) (x : ℕ) (r : List ℕ) (n m : ℕ) → length r + n ≡ m → length (cond (not b) (x ∷ r) r) + (cond b 1 0 + n) ≡ suc m
 without_step true x r n m e = omega arith
 without_step false x r n m e = omega arith

@@ -1,9 +1,9 @@
 -- Which procs are held, over each move.
-use Rattle.std.proofs.Common.{◌≡◌, ◌≢◌, ℕ, ◌+◌, ◌-◌, ◌≤◌, Bool, true, false, not, cond, List, [], ◌∷◌, ◌++◌, length, map, Option, Some, None, refl, ap, sym, ◌∙◌, arith}
+use Rattle.std.proofs.Common.{◌≡◌, ◌≢◌, ℕ, ◌+◌, ◌-◌, ◌≤◌, Bool, true, false, not, cond, List, [], ◌∷◌, ◌++◌, length, map, Option, Some, None, refl, ap, sym, subst, ◌∙◌, arith}
 use Rattle.std.proofs.lemmas.Bool.{eqb-true, eqb-false}
 use Rattle.std.proofs.lemmas.List.Folds.{list_any-append}
 use Rattle.std.specs.Prelude.{◌==◌, ◌&&◌, ◌||◌, option_map, nat_lt}
-use Rattle.std.specs.List.{list_any}
+use Rattle.std.specs.List.{filter, list_any}
 use Rattle.p9_manual.specs.declared.locks.LockWait.{LockWait}
 use Rattle.p9_manual.specs.declared.locks.LockWaiter.{LockWaiter}
 use Rattle.p9_manual.specs.declared.state.Thread.{Thread}
@@ -17,7 +17,7 @@ use Rattle.p9_sched.specs.Holding.{held_in}
 use Rattle.p9_sched.specs.Schedule.{Schedule}
 use Rattle.p9_sched.specs.Stands.{AreHeld}
 use Rattle.p9_sched.proofs.Anywhere.{above_none}
-use Rattle.p9_sched.proofs.Lines.{KeepsProc, eq_same, is_of_keeps}
+use Rattle.p9_sched.proofs.Lines.{KeepsProc, eq_same, eq_other, is_of_keeps}
 use Rattle.p9_sched.proofs.Lists.{item_at, by_id-map, by_id-changed_same}
 
 -- where neither the procs that are held nor the places change
@@ -86,6 +86,14 @@ on_by : (a b : Bool) → ((a && b) || false) ≡ true → b ≡ true
 on_by true b e = sym (or_off b) ∙ e
 on_by false b e = cc
 
+first_off : (a b : Bool) → (a || b) ≡ false → a ≡ false
+first_off true b e = cc
+first_off false b e = refl
+
+second_off : (a b : Bool) → (a || b) ≡ false → b ≡ false
+second_off true b e = cc
+second_off false b e = e
+
 beside_one : (p t : ℕ) (xs : List Thread) (o : Option (LockWait × ℕ)) → is_holding t (lock_waiter t o) ≡ false → list_any (holds_in xs p) (lock_waiter t o) ≡ false
 beside_one p t xs None e = refl
 beside_one p t xs (Some (what, value)) e =
@@ -134,6 +142,55 @@ other_step false p t xs w rest ws e off h =
 pub held_other : (p t : ℕ) (xs : List Thread) → is_of p (by_id xs t) ≡ false → (ws : List Waiter) → list_any (holds_in xs p) (lock_waiters (waits_without t ws)) ≡ list_any (holds_in xs p) (lock_waiters ws)
 held_other p t xs off [] = refl
 held_other p t xs off (w ∷ ws) = other_step (w.tid == t) p t xs w (waits_without t ws) ws refl off (held_other p t xs off ws)
+
+unheld_step : (b : Bool) (p t : ℕ) (xs : List Thread) (w : Waiter) (rest ws : List Waiter) → (w.tid == t) ≡ b → (is_holding t (lock_waiter_of w) || is_holding t (lock_waiters ws)) ≡ false → (is_holding t (lock_waiters ws) ≡ false → list_any (holds_in xs p) (lock_waiters rest) ≡ list_any (holds_in xs p) (lock_waiters ws)) → list_any (holds_in xs p) (lock_waiters (cond (not b) (w ∷ rest) rest)) ≡ list_any (holds_in xs p) (lock_waiters (w ∷ ws))
+unheld_step true p t xs w rest ws e off h =
+    let same : w.tid ≡ t = eqb-true w.tid t e in
+    let mine : is_holding w.tid (lock_waiter_of w) ≡ false = subst (λ u. is_holding u (lock_waiter_of w) ≡ false) (sym same) (first_off (is_holding t (lock_waiter_of w)) (is_holding t (lock_waiters ws)) off) in
+    let none = beside_one p w.tid xs (lock_wait_of w.request) mine in
+    h (second_off (is_holding t (lock_waiter_of w)) (is_holding t (lock_waiters ws)) off) ∙ sym (any_cons (holds_in xs p) w ws ∙ ap (λ b. b || list_any (holds_in xs p) (lock_waiters ws)) none)
+unheld_step false p t xs w rest ws e off h =
+    let same = h (second_off (is_holding t (lock_waiter_of w)) (is_holding t (lock_waiters ws)) off) in
+    any_cons (holds_in xs p) w rest ∙ (ap (λ b. list_any (holds_in xs p) (lock_waiter_of w) || b) same ∙ sym (any_cons (holds_in xs p) w ws))
+
+-- a thread that goes on and held no proc
+pub held_unheld : (p t : ℕ) (xs : List Thread) → (ws : List Waiter) → is_holding t (lock_waiters ws) ≡ false → list_any (holds_in xs p) (lock_waiters (waits_without t ws)) ≡ list_any (holds_in xs p) (lock_waiters ws)
+held_unheld p t xs [] off = refl
+held_unheld p t xs (w ∷ ws) off =
+    let either = sym (any_cons (λ v. (v.tid == t) && holds_proc v.what) w ws) ∙ off in
+    unheld_step (w.tid == t) p t xs w (waits_without t ws) ws refl either (held_unheld p t xs ws)
+
+-- the waits of threads of other procs
+abbrev pub waits_beside : ℕ → List Thread → List Waiter → List Waiter
+waits_beside p xs ws = filter (λ w. not (is_of p (by_id xs w.tid))) ws
+
+out_step : (b : Bool) (p : ℕ) (xs : List Thread) (w : Waiter) (rest : List Waiter) → is_of p (by_id xs w.tid) ≡ b → list_any (holds_in xs p) (lock_waiters rest) ≡ false → list_any (holds_in xs p) (lock_waiters (cond (not b) (w ∷ rest) rest)) ≡ false
+out_step true p xs w rest e h = h
+out_step false p xs w rest e h =
+    any_cons (holds_in xs p) w rest ∙ (ap (λ b. b || list_any (holds_in xs p) (lock_waiters rest)) (none_in p w.tid xs (lock_wait_of w.request) e) ∙ h)
+
+-- where no thread of a proc waits, it isn't held
+pub held_out : (p : ℕ) (xs : List Thread) (ws : List Waiter) → list_any (holds_in xs p) (lock_waiters (waits_beside p xs ws)) ≡ false
+held_out p xs [] = refl
+held_out p xs (w ∷ ws) = out_step (is_of p (by_id xs w.tid)) p xs w (waits_beside p xs ws) refl (held_out p xs ws)
+
+pub of_other : (p q : ℕ) (o : Option Thread) → q ≢ p → is_of p o ≡ true → is_of q o ≡ false
+of_other p q None far e = refl
+of_other p q (Some x) far e =
+    let same : x.proc_no ≡ p = eqb-true x.proc_no p e in
+    rw same (eq_other p q (λ f. far (sym f)))
+
+apart_step : (b : Bool) (p q : ℕ) (xs : List Thread) (w : Waiter) (rest ws : List Waiter) → is_of p (by_id xs w.tid) ≡ b → q ≢ p → list_any (holds_in xs q) (lock_waiters rest) ≡ list_any (holds_in xs q) (lock_waiters ws) → list_any (holds_in xs q) (lock_waiters (cond (not b) (w ∷ rest) rest)) ≡ list_any (holds_in xs q) (lock_waiters (w ∷ ws))
+apart_step true p q xs w rest ws e far h =
+    let none = none_in q w.tid xs (lock_wait_of w.request) (of_other p q (by_id xs w.tid) far e) in
+    h ∙ sym (any_cons (holds_in xs q) w ws ∙ ap (λ b. b || list_any (holds_in xs q) (lock_waiters ws)) none)
+apart_step false p q xs w rest ws e far h =
+    any_cons (holds_in xs q) w rest ∙ (ap (λ b. list_any (holds_in xs q) (lock_waiter_of w) || b) h ∙ sym (any_cons (holds_in xs q) w ws))
+
+-- the threads of one proc held no other one
+pub held_apart : (p q : ℕ) (xs : List Thread) → q ≢ p → (ws : List Waiter) → list_any (holds_in xs q) (lock_waiters (waits_beside p xs ws)) ≡ list_any (holds_in xs q) (lock_waiters ws)
+held_apart p q xs far [] = refl
+held_apart p q xs far (w ∷ ws) = apart_step (is_of p (by_id xs w.tid)) p q xs w (waits_beside p xs ws) ws refl far (held_apart p q xs far ws)
 
 times-append : {A : Type 0} (f : A → Bool) → (xs ys : List A) → times f (xs ++ ys) ≡ times f xs + times f ys
 times-append f [] ys = omega arith

@@ -1,5 +1,5 @@
 -- A lane keeps what it keeps over each move.
-use Rattle.std.proofs.Common.{◌≡◌, ◌≢◌, ℕ, ◌+◌, ◌-◌, ◌<◌, ◌⊎◌, inl, inr, Bool, true, false, not, List, [], ◌∷◌, ◌++◌, length, map, drop, Option, Some, None, refl, sym, ap, ◌∙◌, arith}
+use Rattle.std.proofs.Common.{◌≡◌, ◌≢◌, ℕ, ◌+◌, ◌-◌, ◌<◌, ◌⊎◌, inl, inr, Bool, true, false, not, List, [], ◌∷◌, ◌++◌, length, map, drop, Option, Some, None, refl, sym, ap, subst, ◌∙◌, arith}
 use Rattle.std.proofs.lemmas.List.{length_push}
 use Rattle.std.proofs.lemmas.Bool.{eq-eqb, eqb-true, ne_eqb}
 use Rattle.std.specs.Prelude.{◌==◌, ◌&&◌, option_map, if◌then◌else◌}
@@ -13,10 +13,10 @@ use Rattle.p9_manual.specs.Standing.{times}
 use Rattle.p9_manual.specs.State.{by_id, changed, at_place, placed}
 use Rattle.p9_sched.specs.Kept.{IsLane, is_at, ready_there}
 use Rattle.p9_sched.specs.Lined.{Lined, left_by, joined, queued, queued_first, stopped, left, cleared, started}
-use Rattle.p9_sched.specs.Schedule.{without}
+use Rattle.p9_sched.specs.Schedule.{ended_in, without}
 use Rattle.p9_sched.specs.Table.{one_if}
 use Rattle.p9_sched.specs.Turns.{is_ready_in}
-use Rattle.p9_sched.proofs.Counts.{times-changed, times-push, times-le, times-lt, times-none, length-without, times-without_same, times-without_other}
+use Rattle.p9_sched.proofs.Counts.{times-changed, times-push, times-le, times-lt, times-none, times-map_same, length-without, times-without_same, times-without_other}
 use Rattle.p9_sched.proofs.Lists.{at_or_not, id_at, id_of, by_id-past, by_id-push_new, by_id-push_other, by_id-map, by_id-changed_same, by_id-changed_other, same_test}
 
 own : (n m : ℕ) (b : Bool) → n ≡ m → (n == m && b) ≡ b
@@ -313,6 +313,74 @@ cleared_lane p threads more l k =
       ready = sym (times-none (is_ready_in p) at_end (λ x. never (x.proc_no == p) false refl) threads);
       line = λ u. sym (ap (λ o. one_if (ready_there p o)) (by_id-map at_end threads u) ∙ ap one_if (ended_ready p (by_id threads u)));
       room = omega arith;
+    }
+
+ended_mine : (p : ℕ) (x : Thread) → x.proc_no ≡ p → ended_in p x ≡ at_end x
+ended_mine p x e = rw (eq-eqb x.proc_no p e) refl
+
+ended_other : (p : ℕ) (x : Thread) → x.proc_no ≢ p → ended_in p x ≡ x
+ended_other p x ne = rw (ne_eqb x.proc_no p ne) refl
+
+-- a test that sees only living threads of the proc passes none once they have ended
+gone_by : (f : Thread → Bool) (p : ℕ) (x : Thread) → f (at_end x) ≡ false → (x.proc_no ≢ p → f x ≡ false) → (x.proc_no ≡ p) ⊎ (x.proc_no ≢ p) → f (ended_in p x) ≡ false
+gone_by f p x end other (inl e) = ap f (ended_mine p x e) ∙ end
+gone_by f p x end other (inr ne) = ap f (ended_other p x ne) ∙ other ne
+
+gone_lives : (p : ℕ) (x : Thread) → lives_in p (ended_in p x) ≡ false
+gone_lives p x = gone_by (lives_in p) p x (never (x.proc_no == p) false refl) (foreign x.proc_no p (not (is_ended x.place))) (at_or_not p x.proc_no)
+
+gone_runs : (p : ℕ) (x : Thread) → runs_in p (ended_in p x) ≡ false
+gone_runs p x = gone_by (runs_in p) p x (never (x.proc_no == p) false refl) (foreign x.proc_no p (is_running x.place)) (at_or_not p x.proc_no)
+
+gone_ready : (p : ℕ) (x : Thread) → is_ready_in p (ended_in p x) ≡ false
+gone_ready p x = gone_by (is_ready_in p) p x (never (x.proc_no == p) false refl) (foreign x.proc_no p (is_ready x.place)) (at_or_not p x.proc_no)
+
+none_runs : (p : ℕ) (o : Option Thread) → runs_there p (option_map (ended_in p) o) ≡ false
+none_runs p None = refl
+none_runs p (Some x) = gone_runs p x
+
+none_ready : (p : ℕ) (o : Option Thread) → ready_there p (option_map (ended_in p) o) ≡ false
+none_ready p None = refl
+none_ready p (Some x) = gone_ready p x
+
+-- no thread of the proc lives any more
+pub cleared_proc : (p : ℕ) (threads : List Thread) (more : Bool) (l : Lined) → IsLane p threads more l → IsLane p (map (ended_in p) threads) more (cleared l)
+cleared_proc p threads more l k =
+    let room = k.room in
+    record {
+      living = sym (times-none (lives_in p) (ended_in p) (gone_lives p) threads);
+      running = λ u. sym (ap (runs_there p) (by_id-map (ended_in p) threads u) ∙ none_runs p (by_id threads u));
+      ready = sym (times-none (is_ready_in p) (ended_in p) (gone_ready p) threads);
+      line = λ u. sym (ap (λ o. one_if (ready_there p o)) (by_id-map (ended_in p) threads u) ∙ ap one_if (none_ready p (by_id threads u)));
+      room = omega arith;
+    }
+
+kept_by : (p q : ℕ) (x : Thread) → q ≢ p → (x.proc_no ≡ p) ⊎ (x.proc_no ≢ p) → IsSame q x (ended_in p x)
+kept_by p q x far (inl e) =
+    let apart : x.proc_no ≢ q = λ f. far (sym f ∙ e) in
+    subst (λ y. IsSame q x y) (sym (ended_mine p x e)) (same_foreign q x Ended apart)
+kept_by p q x far (inr ne) = subst (λ y. IsSame q x y) (sym (ended_other p x ne)) (record { lives = refl; runs = refl; ready = refl })
+
+kept : (p q : ℕ) (x : Thread) → q ≢ p → IsSame q x (ended_in p x)
+kept p q x far = kept_by p q x far (at_or_not p x.proc_no)
+
+runs_kept : (p q : ℕ) (o : Option Thread) → q ≢ p → runs_there q (option_map (ended_in p) o) ≡ runs_there q o
+runs_kept p q None far = refl
+runs_kept p q (Some x) far = (kept p q x far).runs
+
+ready_kept : (p q : ℕ) (o : Option Thread) → q ≢ p → ready_there q (option_map (ended_in p) o) ≡ ready_there q o
+ready_kept p q None far = refl
+ready_kept p q (Some x) far = (kept p q x far).ready
+
+-- the lane of another proc
+pub beside_ended : (p q : ℕ) (threads : List Thread) (more : Bool) (l : Lined) → q ≢ p → IsLane q threads more l → IsLane q (map (ended_in p) threads) more l
+beside_ended p q threads more l far k =
+    record {
+      living = k.living ∙ sym (times-map_same (lives_in q) (ended_in p) (λ x. (kept p q x far).lives) threads);
+      running = λ u. k.running u ∙ sym (ap (runs_there q) (by_id-map (ended_in p) threads u) ∙ runs_kept p q (by_id threads u) far);
+      ready = k.ready ∙ sym (times-map_same (is_ready_in q) (ended_in p) (λ x. (kept p q x far).ready) threads);
+      line = λ u. k.line u ∙ ap one_if (sym (ap (ready_there q) (by_id-map (ended_in p) threads u) ∙ ready_kept p q (by_id threads u) far));
+      room = k.room;
     }
 
 ready_lives_at : (b : Bool) (pl : Place) → (b && is_ready pl) ≡ true → (b && not (is_ended pl)) ≡ true

@@ -13,4 +13,5 @@ pub mod Nexts
 pub mod Lines
 pub mod Anywhere
 pub mod Held
+pub mod Ended
 pub mod Tracks

@@ -206,6 +206,26 @@ get_emptied (x ∷ xs) (suc i) = get_emptied xs i
 pub parts_all_ended : (s : Schedule) → AreLines (all_ended s) []
 parts_all_ended s = record { part = λ p a b. rw (by_id_at (map emptied s.lines) p a) (get_emptied s.lines (p - 1)) }
 
+none_left : (a b : Bool) (x : ℕ) (f : ℕ → Bool) (xs : List ℕ) → f x ≡ a → (a ≡ true → b ≡ false) → filter f xs ≡ [] → filter f (cond b (x ∷ xs) xs) ≡ []
+none_left a false x f xs e h more = more
+none_left true true x f xs e h more = let off : true ≡ false = h refl in cc
+none_left false true x f xs e h more = rw e more
+
+-- where each that passes f fails g, none passes both
+pub filter_none : (f g : ℕ → Bool) → ((x : ℕ) → f x ≡ true → g x ≡ false) → (xs : List ℕ) → filter f (filter g xs) ≡ []
+filter_none f g h [] = refl
+filter_none f g h (x ∷ xs) = none_left (f x) (g x) x f (filter g xs) refl (h x) (filter_none f g h xs)
+
+all_left : (a b : Bool) (x : ℕ) (f : ℕ → Bool) (xs ys : List ℕ) → f x ≡ a → (a ≡ true → b ≡ true) → filter f xs ≡ filter f ys → filter f (cond b (x ∷ xs) xs) ≡ filter f (x ∷ ys)
+all_left a true x f xs ys e h more = rw more refl
+all_left true false x f xs ys e h more = let on : false ≡ true = h refl in cc
+all_left false false x f xs ys e h more = rw e more
+
+-- where each that passes f passes g, g leaves out none of them
+pub filter_within : (f g : ℕ → Bool) → ((x : ℕ) → f x ≡ true → g x ≡ true) → (xs : List ℕ) → filter f (filter g xs) ≡ filter f xs
+filter_within f g h [] = refl
+filter_within f g h (x ∷ xs) = all_left (f x) (g x) x f (filter g xs) xs refl (h x) (filter_within f g h xs)
+
 -- the first item that passes is the one that is picked
 pub record FirstOf (p : ℕ → Bool) (t : ℕ) (rest line : List ℕ) : Type 0 where
   pub others : List ℕ

@@ -95,7 +95,8 @@ some_within [] i x e = cc
 some_within (y ∷ xs) zero x e = omega arith
 some_within (y ∷ xs) (suc i) x e = let h = some_within xs i x e in omega arith
 
-positive : {A : Type 0} → (xs : List A) (t : ℕ) (x : A) → by_id xs t ≡ Some x → 1 ≤ t
+-- an id of an item counts from 1
+pub positive : {A : Type 0} → (xs : List A) (t : ℕ) (x : A) → by_id xs t ≡ Some x → 1 ≤ t
 positive xs zero x e = cc
 positive xs (suc t) x e = omega arith
 
@@ -212,3 +213,11 @@ pub changed_none : {A : Type 0} (f : A → A) → ((x : A) → f x ≡ x) → (x
 changed_none f e [] i = refl
 changed_none f e (x ∷ xs) zero = ap (λ y. y ∷ xs) (e x)
 changed_none f e (x ∷ xs) (suc i) = ap (λ ys. x ∷ ys) (changed_none f e xs i)
+
+-- changes that agree on the item at the index
+pub changed_alike : {A : Type 0} (f g : A → A) → (xs : List A) (i : ℕ) (x : A) → slice_get xs i ≡ Some x → f x ≡ g x → changed f xs i ≡ changed g xs i
+changed_alike f g [] i x at e = refl
+changed_alike f g (y ∷ xs) zero x at e =
+    let same : y ≡ x = cc in
+    rw same (ap (λ z. z ∷ xs) e)
+changed_alike f g (y ∷ xs) (suc i) x at e = ap (λ zs. y ∷ zs) (changed_alike f g xs i x at e)

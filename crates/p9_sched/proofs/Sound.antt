@@ -12,10 +12,11 @@ use Rattle.p9_manual.specs.Places.{is_running, is_ready, is_ended, lives_in, run
 use Rattle.p9_manual.specs.State.{by_id, changed, at_place, placed}
 use Rattle.p9_sched.specs.Kept.{IsLane, IsSound, is_at, ready_there}
 use Rattle.p9_sched.specs.Lined.{Lined, bare, no_lane, room_at, HasSpare, RunsOffLine, holding, joined, cleared, worded}
-use Rattle.p9_sched.specs.Schedule.{all_rooms}
+use Rattle.p9_sched.specs.Rooms.{all_rooms}
+use Rattle.p9_sched.specs.Schedule.{ended_in}
 use Rattle.p9_sched.specs.Stored.{Stored, HasId}
 use Rattle.p9_sched.specs.Table.{one_if}
-use Rattle.p9_sched.proofs.Keeping.{IsSame, same_lane, same_foreign, joined_lane, beside_lane, cleared_lane, room_away, room_more}
+use Rattle.p9_sched.proofs.Keeping.{IsSame, same_lane, same_foreign, joined_lane, beside_lane, cleared_lane, cleared_proc, beside_ended, room_away, room_more}
 use Rattle.p9_sched.proofs.Counts.{times-le_length}
 use Rattle.p9_sched.proofs.Lists.{at_or_not, id_at, id_of, by_id-past, length-changed, by_id-changed_same, by_id-changed_other, by_id-push_new, by_id-push_other, by_id-map}
 
@@ -120,6 +121,28 @@ ended_all threads ls more s =
       few = omega arith;
       procs = λ u. rw (by_id-map at_end threads u) (if_map (by_id threads u) at_end (λ y. HasId y.proc_no ls) (λ y. HasId y.proc_no (map cleared ls)) (s.procs u) (λ y. same_id y.proc_no ls (map cleared ls) (length-map ls cleared)));
       each = λ q. rw (by_id-map cleared ls q) (if_map (by_id ls q) cleared (IsLane q threads more) (IsLane q (map at_end threads) more) (s.each q) (cleared_lane q threads more));
+    }
+
+kept_proc : (p : ℕ) (x : Thread) (b : Bool) → (x.proc_no == p) ≡ b → (ended_in p x).proc_no ≡ x.proc_no
+kept_proc p x true e = rw e refl
+kept_proc p x false e = rw e refl
+
+ended_lanes : (threads : List Thread) (ls : List Lined) (more : Bool) (p q : ℕ) → 1 ≤ p → ((r : ℕ) → IfSome (by_id ls r) (IsLane r threads more)) → (q ≡ p) ⊎ (q ≢ p) → IfSome (by_id (changed cleared ls (p - 1)) q) (IsLane q (map (ended_in p) threads) more)
+ended_lanes threads ls more p q one k (inl e) =
+    rw (e, by_id-changed_same cleared ls p one) (if_map (by_id ls p) cleared (IsLane p threads more) (IsLane p (map (ended_in p) threads) more) (k p) (cleared_proc p threads more))
+ended_lanes threads ls more p q one k (inr ne) =
+    rw (by_id-changed_other cleared ls p q one ne) (if_imp (by_id ls q) (IsLane q threads more) (IsLane q (map (ended_in p) threads) more) (k q) (λ l. beside_ended p q threads more l ne))
+
+-- all threads of a proc have ended
+pub ended_proc : (threads : List Thread) (ls : List Lined) (more : Bool) (p : ℕ) → 1 ≤ p → IsSound threads ls more → IsSound (map (ended_in p) threads) (changed cleared ls (p - 1)) more
+ended_proc threads ls more p one s =
+    let n = length-map threads (ended_in p) in
+    let few = s.few in
+    let long = length-changed cleared ls (p - 1) in
+    record {
+      few = omega arith;
+      procs = λ u. rw (by_id-map (ended_in p) threads u) (if_map (by_id threads u) (ended_in p) (λ y. HasId y.proc_no ls) (λ y. HasId y.proc_no (changed cleared ls (p - 1))) (s.procs u) (λ y id. subst (λ n. HasId n (changed cleared ls (p - 1))) (sym (kept_proc p y (y.proc_no == p) refl)) (same_id y.proc_no ls (changed cleared ls (p - 1)) long id)));
+      each = λ q. ended_lanes threads ls more p q one s.each (at_or_not p q);
     }
 
 worded_lane : (p w : ℕ) (threads : List Thread) (more : Bool) (l : Lined) → IsLane p threads more l → IsLane p threads more (worded w l)

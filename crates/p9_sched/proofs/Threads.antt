@@ -1,14 +1,14 @@
 -- What a change of the rows, the groups or the names does to the threads that they stand for.
-use Rattle.std.proofs.Common.{◌≡◌, ◌≢◌, ℕ, zero, suc, ◌+◌, ◌-◌, ◌<◌, ◌≤◌, List, [], ◌∷◌, ◌++◌, length, map, get_or, set, Option, Some, refl, ap, ◌∙◌, arith}
-use Rattle.std.specs.Prelude.{option_map, slice_get, unwrap_or}
+use Rattle.std.proofs.Common.{◌≡◌, ◌≢◌, ℕ, zero, suc, ◌+◌, ◌-◌, ◌<◌, ◌≤◌, Bool, true, false, List, [], ◌∷◌, ◌++◌, length, map, get_or, set, Option, Some, refl, ap, ◌∙◌, arith}
+use Rattle.std.specs.Prelude.{◌==◌, option_map, slice_get, unwrap_or}
 use Rattle.p9_manual.specs.declared.state.Thread.{Thread}
 use Rattle.p9_manual.specs.Ends.{at_end}
 use Rattle.p9_manual.specs.State.{by_id, changed}
 use Rattle.p9_manual.specs.Threads.{in_group, with_name}
 use Rattle.p9_sched.specs.declared.row.Row.{Row}
-use Rattle.p9_sched.specs.Schedule.{group_of, name_of}
+use Rattle.p9_sched.specs.Schedule.{ended_in, group_of, name_of}
 use Rattle.p9_sched.proofs.Lists.{by_id_at}
-use Rattle.p9_sched.specs.Stored.{thread_of, threads_of, row_ended}
+use Rattle.p9_sched.specs.Stored.{thread_of, threads_of, row_ended, row_ended_in}
 
 pub length_threads : (g : ℕ → Option ℕ) (n : ℕ → Option (List ℕ)) (t : ℕ) (xs : List Row) → length (threads_of g n t xs) ≡ length xs
 length_threads g n t [] = refl
@@ -31,6 +31,15 @@ threads_set g n h t (x ∷ xs) (suc i) y d lt e = ap (λ zs. thread_of g n t x �
 pub threads_ended : (g : ℕ → Option ℕ) (n : ℕ → Option (List ℕ)) (t : ℕ) (xs : List Row) → threads_of g n t (map row_ended xs) ≡ map at_end (threads_of g n t xs)
 threads_ended g n t [] = refl
 threads_ended g n t (x ∷ xs) = ap (λ zs. at_end (thread_of g n t x) ∷ zs) (threads_ended g n (suc t) xs)
+
+ended_if : (b : Bool) (g : ℕ → Option ℕ) (n : ℕ → Option (List ℕ)) (t p : ℕ) (x : Row) → (x.proc_no == p) ≡ b → thread_of g n t (row_ended_in p x) ≡ ended_in p (thread_of g n t x)
+ended_if true g n t p x e = rw e refl
+ended_if false g n t p x e = rw e refl
+
+-- the threads of a proc have ended where their rows say so
+pub threads_ended_in : (g : ℕ → Option ℕ) (n : ℕ → Option (List ℕ)) (p t : ℕ) (xs : List Row) → threads_of g n t (map (row_ended_in p) xs) ≡ map (ended_in p) (threads_of g n t xs)
+threads_ended_in g n p t [] = refl
+threads_ended_in g n p t (x ∷ xs) = rw (ended_if (x.proc_no == p) g n t p x refl, threads_ended_in g n p (suc t) xs) refl
 
 push_thread : (g : ℕ → Option ℕ) (n : ℕ → Option (List ℕ)) (t u : ℕ) (xs : List Row) (x : Row) → u ≡ t + length xs → threads_of g n t (xs ++ x ∷ []) ≡ threads_of g n t xs ++ thread_of g n u x ∷ []
 push_thread g n t u [] x e = let same : u ≡ t = omega arith in rw same refl

@@ -1,5 +1,5 @@
 -- What each call makes of the states that a schedule stands for.
-use Rattle.std.proofs.Common.{◌≡◌, ℕ, ◌+◌, ◌-◌, ◌<◌, ◌≤◌, Bool, true, false, not, cond, List, [], ◌∷◌, ◌++◌, length, map, Option, Some, None, Result, Ok, Err, OnOk, OnErr, refl, ap, sym, subst, ◌∙◌, arith, rules, tests}
+use Rattle.std.proofs.Common.{◌≡◌, ◌≢◌, ℕ, ◌+◌, ◌-◌, ◌<◌, ◌≤◌, Bool, true, false, not, cond, List, [], ◌∷◌, ◌++◌, length, map, Option, Some, None, Result, Ok, Err, OnOk, OnErr, refl, ap, sym, subst, ◌∙◌, arith, rules, tests}
 use Rattle.std.specs.Prelude.{◌==◌, if◌then◌else◌, option_map}
 use Rattle.std.specs.List.{filter, list_any}
 use Rattle.std.proofs.lemmas.List.{length-map}
@@ -10,30 +10,34 @@ use Rattle.p9_manual.specs.declared.state.Place.TheVariants.{Running, Ready, Wai
 use Rattle.p9_manual.specs.declared.state.Thread.{Thread}
 use Rattle.p9_manual.specs.declared.state.Waiter.{Waiter}
 use Rattle.p9_manual.specs.Create.{fresh, with_thread}
-use Rattle.p9_manual.specs.Ends.{at_end, ended as state_ended, all_ended as state_all_ended}
+use Rattle.p9_manual.specs.Ends.{at_end, ended_if, ended as state_ended, proc_ended as state_proc_ended, all_ended as state_all_ended}
 use Rattle.p9_manual.specs.Held.{holds_in, is_held as state_is_held}
+use Rattle.p9_manual.specs.Interrupt.{doomed, marked, with_mark}
 use Rattle.p9_manual.specs.LockWaits.{lined, lock_waiters}
 use Rattle.p9_manual.specs.Next.{stuck, started, turn, first_ready, next_of}
 use Rattle.p9_manual.specs.Places.{is_of}
 use Rattle.p9_manual.specs.Standing.{StandOnce, place_in, times, times_in_waits}
-use Rattle.p9_manual.specs.State.{State, by_id, pick, at_place, placed, changed, same, waits_without, wake, readied as state_readied, waiting as state_waiting}
+use Rattle.p9_manual.specs.State.{State, Proc, by_id, pick, at_place, placed, changed, each_from, same, waits_without, wake, readied as state_readied, waiting as state_waiting}
 use Rattle.p9_manual.specs.Stuck.{is_stuck}
 use Rattle.p9_manual.specs.Threads.{with_changed, with_proc_word as with_word_in, set_proc_word}
 use Rattle.p9_sched.specs.Holding.{held_in, is_held, with_held, readied_first}
-use Rattle.p9_sched.specs.Schedule.{Schedule, Rooms, all_rooms, IsPlace, proc_of, line_of, emptied, with_new, with_proc, with_proc_word, readied, waiting, ended, all_ended, begun}
-use Rattle.p9_sched.specs.Stands.{AreLines, IsHolder, IsWaitBeside, IsWaitHolding, SchedFor, Tracks, TracksHolder, TracksStanding, proc_with, after_next, with_proc_in}
+use Rattle.p9_sched.specs.Rooms.{Rooms, all_rooms}
+use Rattle.p9_sched.specs.Schedule.{Schedule, IsPlace, proc_of, line_of, emptied, with_new, with_proc, with_proc_word, readied, waiting, ended, ended_in, proc_ended, all_ended, begun}
+use Rattle.p9_sched.specs.Marks.{with_mark_of}
+use Rattle.p9_sched.specs.Stands.{AreLines, IsHolder, IsWaitBeside, IsWaitHolding, SchedFor, Tracks, TracksBeside, TracksHolder, TracksStanding, after_next, with_proc_in}
 use Rattle.p9_sched.specs.Turns.{place_of, turn_of, next_in}
 use Rattle.p9_sched.specs.declared.turns.Place.TheVariants as place
 use Rattle.p9_sched.specs.declared.turns.Ready.{Ready as Turn}
-use Rattle.p9_sched.proofs.Asks.{off_waits}
-use Rattle.p9_sched.proofs.Held.{held_still, held_changed, held_but, held_beside, held_more, held_other, held_freed, waits_still, is_freed, is_taken, all_freed, or_false, or_true}
+use Rattle.p9_sched.proofs.Asks.{alive, off_waits}
+use Rattle.p9_sched.proofs.Ended.{one_ended, made_one, words_quiet, proc_threads, is_of_ended, parts_proc_ended, all_threads, none_stays}
+use Rattle.p9_sched.proofs.Held.{held_still, held_alike, held_changed, held_but, held_beside, held_more, held_other, held_freed, held_unheld, held_out, held_apart, waits_beside, waits_still, is_freed, is_taken, all_freed, or_false, or_true}
 use Rattle.p9_sched.proofs.Lines.{KeepsProc, CasesEq, Same, Other, cases_eq, eq_same, eq_other, place_keeps, is_of_proc, parts_front, parts_changed, parts_ready, parts_wait, parts_ended, parts_all_ended, parts_made, parts_begun, first_of, none_picked}
-use Rattle.p9_sched.proofs.Lists.{by_id-past, by_id-push_other, by_id-changed_other, length-changed, map-changed}
+use Rattle.p9_sched.proofs.Lists.{id_at, by_id-past, by_id-push_other, by_id-changed_other, changed_alike, length-changed, map-changed}
 
 -- only the rooms change
 pub tracks_rooms : (rooms : Rooms) (old new : Schedule) → new ≡ record old { rooms = rooms } → Tracks (λ s. s) old new
 tracks_rooms rooms old new e = λ places s h.
-    rw e (record { threads = h.threads; lines = record { part = h.lines.part }; procs = h.procs; opened = h.opened; count = h.count; held = record { held = h.held.held } })
+    rw e (record { threads = h.threads; lines = record { part = h.lines.part }; words = h.words; opened = h.opened; count = h.count; held = record { held = h.held.held } })
 
 pub tracks_reserved : {T E : Type 0} (r : Result T E) (old new : Schedule) → OnOk r (new ≡ record old { rooms = all_rooms }) → OnErr r (new ≡ old) → Tracks (λ s. s) old new
 tracks_reserved (Ok x) old new ok err = tracks_rooms all_rooms old new ok
@@ -44,10 +48,22 @@ tracks_readied t a old new e place = λ places s h.
     rw e (record {
       threads = ap (placed t (Ready a)) h.threads;
       lines = parts_ready t a old (readied t a old) s.line refl place h.lines;
-      procs = h.procs;
+      words = h.words;
       opened = h.opened;
       count = length-changed _ old.lines _ ∙ h.count;
       held = held_still old _ s _ refl (length-changed _ old.lines _) (λ p. held_changed (at_place (Ready a)) (place_keeps (Ready a)) (t - 1) s.threads p (lock_waiters s.waits)) h.held;
+    })
+
+-- a thread that goes on and held no proc
+pub tracks_beside : (t : ℕ) (a : Answer) (old new : Schedule) → new ≡ readied t a old → IsPlace (proc_of (by_id old.threads t)) old → TracksBeside t (wake t a) old new
+tracks_beside t a old new e place = λ places s beside h.
+    rw e (record {
+      threads = ap (placed t (Ready a)) h.threads;
+      lines = subst (λ b. AreLines (readied t a old) (lined b t s.line)) (sym beside) (parts_ready t a old (readied t a old) s.line refl place h.lines);
+      words = h.words;
+      opened = h.opened;
+      count = length-changed _ old.lines _ ∙ h.count;
+      held = held_still old _ s _ refl (length-changed _ old.lines _) (λ p. held_changed (at_place (Ready a)) (place_keeps (Ready a)) (t - 1) s.threads p (lock_waiters (waits_without t s.waits)) ∙ held_unheld p t s.threads s.waits beside) h.held;
     })
 
 -- the wait of thread t in a request
@@ -59,7 +75,7 @@ tracks_waiting t request beside old new e = λ places s h.
     rw e (record {
       threads = ap (placed t Waiting) h.threads;
       lines = parts_wait t old (waiting t old) s.line refl h.lines;
-      procs = h.procs;
+      words = h.words;
       opened = h.opened;
       count = h.count;
       held = held_still old _ s _ refl refl (λ p. held_changed (at_place Waiting) (place_keeps Waiting) (t - 1) s.threads p (lock_waiters (s.waits ++ wait_of t request s ∷ [])) ∙ held_beside p (wait_of t request s) s.threads s.waits (beside t s.position)) h.held;
@@ -84,7 +100,7 @@ tracks_holding t request holding old new e place long = λ places s h.
     rw e (record {
       threads = ap (placed t Waiting) h.threads;
       lines = record { part = (parts_wait t old (waiting t old) s.line refl h.lines).part };
-      procs = h.procs;
+      words = h.words;
       opened = h.opened;
       count = h.count;
       held = record {
@@ -112,7 +128,7 @@ tracks_holder t a old new e place = λ places s stand holder h.
     rw e (record {
       threads = ap (placed t (Ready a)) h.threads;
       lines = subst (λ b. AreLines n (lined b t s.line)) (sym holder.holds) (parts_front t a old n s.line refl refl one h.lines);
-      procs = h.procs;
+      words = h.words;
       opened = h.opened;
       count = length-changed _ old.lines _ ∙ h.count;
       held = record {
@@ -132,31 +148,58 @@ runs_off None e = cc
 runs_off (Some thread) e = off_waits thread.place e
 
 -- a thread that runs doesn't wait, so its end frees no proc
-ended_held : (p t : ℕ) (old : Schedule) (s : State) → place_of (by_id old.threads t) ≡ place.Running → s.threads ≡ old.threads → StandOnce s.threads s.line s.waits → state_is_held p (state_ended t s) ≡ state_is_held p s
-ended_held p t old s runs e stand =
+ended_held : (p t : ℕ) (old : Schedule) (s : State) → 1 ≤ t → place_of (by_id old.threads t) ≡ place.Running → s.threads ≡ old.threads → StandOnce s.threads s.line s.waits → state_is_held p (state_ended t s) ≡ state_is_held p s
+ended_held p t old s one runs e stand =
     let none : times (λ w. w.tid == t) s.waits ≡ 0 = stand.in_waits t ∙ (ap (λ (xs : List Thread). times_in_waits (place_in (by_id xs t))) e ∙ runs_off (by_id old.threads t) runs) in
-    held_changed (at_place Ended) (place_keeps Ended) (t - 1) s.threads p (lock_waiters (waits_without t s.waits)) ∙ ap (λ ws. list_any (holds_in s.threads p) (lock_waiters ws)) (waits_still t s.waits none)
+    ap (λ (xs : List Thread). list_any (holds_in xs p) (lock_waiters (waits_without t s.waits))) (one_ended t s.threads one) ∙ (held_changed (at_place Ended) (place_keeps Ended) (t - 1) s.threads p (lock_waiters (waits_without t s.waits)) ∙ ap (λ ws. list_any (holds_in s.threads p) (lock_waiters ws)) (waits_still t s.waits none))
 
 pub tracks_ended : (t : ℕ) (old new : Schedule) → new ≡ ended t old → IsPlace (proc_of (by_id old.threads t)) old → place_of (by_id old.threads t) ≡ place.Running → TracksStanding (state_ended t) old new
 tracks_ended t old new e place runs = λ places s stand h.
+    let one = made_one old.threads t (by_id old.threads t) refl place.from in
     rw e (record {
-      threads = ap (placed t Ended) h.threads;
+      threads = one_ended t s.threads one ∙ ap (placed t Ended) h.threads;
       lines = ended_by (by_id old.threads t) t old s.line refl place h.lines;
-      procs = h.procs;
+      words = words_quiet s.threads (each_from (ended_if (λ u. u == t)) 1 s.threads) 1 s.procs ∙ h.words;
       opened = h.opened;
       count = length-changed _ old.lines _ ∙ h.count;
-      held = held_still old _ s _ refl (length-changed _ old.lines _) (λ p. ended_held p t old s runs h.threads stand) h.held;
+      held = held_still old _ s _ refl (length-changed _ old.lines _) (λ p. ended_held p t old s one runs h.threads stand) h.held;
+    })
+
+-- which procs are held, once all threads of proc p have ended
+ended_holds : (p q : ℕ) (old : Schedule) (s : State) → 1 ≤ p → is_held q old ≡ state_is_held q s → CasesEq q p → is_held q (proc_ended p old) ≡ list_any (holds_in s.threads q) (lock_waiters (waits_beside p s.threads s.waits))
+ended_holds p q old s one was (Same e) = rw e (is_freed old.holds p one ∙ sym (held_out p s.threads s.waits))
+ended_holds p q old s one was (Other ne) =
+    ap held_in (by_id-changed_other (λ _. false) old.holds p q one ne) ∙ (was ∙ sym (held_apart p q s.threads ne s.waits))
+
+pub tracks_proc_ended : (p : ℕ) → 1 ≤ p → (old new : Schedule) → new ≡ proc_ended p old → TracksStanding (state_proc_ended p) old new
+tracks_proc_ended p one old new e = λ places s stand h.
+    let all = proc_threads p s.threads in
+    rw e (record {
+      threads = all ∙ ap (map (ended_in p)) h.threads;
+      lines = parts_proc_ended p old s.threads s.line one h.threads h.lines;
+      words = words_quiet s.threads (each_from (ended_if (λ t. is_of p (by_id s.threads t))) 1 s.threads) 1 s.procs ∙ h.words;
+      opened = h.opened;
+      count = length-changed _ old.lines (p - 1) ∙ h.count;
+      held = record {
+        held = λ q a b1.
+            let b : q ≤ length old.lines = rw length-changed at b1 in
+            let alike = held_alike s.threads (map (ended_in p) s.threads) q (λ u. is_of_ended p q s.threads u) (lock_waiters (waits_beside p s.threads s.waits)) in
+            ended_holds p q old s one (h.held.held q a b) (cases_eq q p) ∙ sym (ap (λ (xs : List Thread). list_any (holds_in xs q) (lock_waiters (waits_beside p s.threads s.waits))) all ∙ alike);
+      };
     })
 
 pub tracks_all_ended : (old new : Schedule) → new ≡ all_ended old → Tracks state_all_ended old new
 tracks_all_ended old new e = λ places s h.
     rw e (record {
-      threads = ap (map at_end) h.threads;
-      lines = parts_all_ended old;
-      procs = h.procs;
+      threads = all_threads 1 s.threads ∙ ap (map at_end) h.threads;
+      lines = subst (λ (line : List ℕ). AreLines (all_ended old) line) (sym (none_stays s.line)) (parts_all_ended old);
+      words = words_quiet s.threads (each_from (ended_if (λ t. true)) 1 s.threads) 1 s.procs ∙ h.words;
       opened = h.opened;
       count = length-map old.lines emptied ∙ h.count;
-      held = record { held = λ p a b. all_freed old.holds p };
+      held = record {
+        held = λ p a b.
+            all_freed old.holds p ∙ sym (ap (λ (ws : List Waiter). list_any (holds_in (each_from (ended_if (λ t. true)) 1 s.threads) p) (lock_waiters ws)) (none_stays s.waits));
+      };
     })
 
 -- a thread is changed, but not its proc
@@ -165,18 +208,31 @@ tracks_changed f keeps t rooms old new e = λ places s h.
     rw e (record {
       threads = ap (λ (xs : List Thread). changed f xs (t - 1)) h.threads;
       lines = parts_changed f keeps old _ (t - 1) s.line refl refl h.lines;
-      procs = h.procs;
+      words = h.words;
       opened = h.opened;
       count = h.count;
       held = held_still old _ s _ refl refl (λ p. held_changed f keeps (t - 1) s.threads p (lock_waiters s.waits)) h.held;
     })
+
+-- a thread that lives is marked
+marked_is : (t : ℕ) (old : Schedule) (s : State) → place_of (by_id old.threads t) ≢ place.Ended → s.threads ≡ old.threads → with_changed with_mark t s ≡ marked t s
+marked_is t old s lives e =
+    let a = alive (by_id old.threads t) lives in
+    let at : by_id s.threads t ≡ Some a.thread = ap (λ (xs : List Thread). by_id xs t) e ∙ a.there in
+    let same : with_mark a.thread ≡ doomed a.thread = rw a.alive refl in
+    ap (λ (xs : List Thread). record s { threads = xs }) (changed_alike with_mark doomed s.threads (t - 1) a.thread (id_at s.threads t a.thread at) same)
+
+pub tracks_marked : (t : ℕ) (old new : Schedule) → new ≡ with_mark_of t old → place_of (by_id old.threads t) ≢ place.Ended → Tracks (marked t) old new
+tracks_marked t old new e lives = λ places s h.
+    let now = tracks_changed with_mark (record { same = λ x. refl }) t old.rooms old new e places s h in
+    subst (λ (x : State). SchedFor places new x) (marked_is t old s lives h.threads) now
 
 pub tracks_worded : (p word : ℕ) (old new : Schedule) → new ≡ with_proc_word p word old → Tracks (λ s. (set_proc_word p word s).state) old new
 tracks_worded p word old new e = λ places s h.
     rw e (record {
       threads = h.threads;
       lines = record { part = h.lines.part };
-      procs = ap (λ ps. changed (with_word_in word) ps (p - 1)) h.procs ∙ sym (map-changed proc_with (λ _. word) (with_word_in word) (λ x. refl) old.words (p - 1));
+      words = map-changed (λ (x : Proc). x.word) (with_word_in word) (λ _. word) (λ x. refl) s.procs (p - 1) ∙ ap (λ (ws : List ℕ). changed (λ _. word) ws (p - 1)) h.words;
       opened = h.opened;
       count = h.count;
       held = record { held = h.held.held };
@@ -198,7 +254,7 @@ tracks_made p program arg group old new e place = λ places s stand h.
     rw e (record {
       threads = ap (λ (xs : List Thread). xs ++ fresh p program arg group ∷ []) h.threads;
       lines = rw h.threads (parts_made p (fresh p program arg group) old _ s.line place.from place.to refl refl refl (next_is_new old s h.threads stand) h.lines);
-      procs = h.procs;
+      words = h.words;
       opened = h.opened;
       count = length-changed _ old.lines (p - 1) ∙ h.count;
       held = held_still old _ s _ refl (length-changed _ old.lines (p - 1)) (λ q. made_held q (fresh p program arg group) old s h.threads stand) h.held;
@@ -206,7 +262,7 @@ tracks_made p program arg group old new e place = λ places s stand h.
 
 -- so many procs are open
 opened_more : (n places : ℕ) (old : Schedule) (s : State) → SchedFor places old s → SchedFor places (record old { opened = n }) (record s { opened = n })
-opened_more n places old s h = record { threads = h.threads; lines = record { part = h.lines.part }; procs = h.procs; opened = refl; count = h.count; held = record { held = h.held.held } }
+opened_more n places old s h = record { threads = h.threads; lines = record { part = h.lines.part }; words = h.words; opened = refl; count = h.count; held = record { held = h.held.held } }
 
 pub tracks_opened : (program arg group : ℕ) (old new : Schedule) → new ≡ with_proc program arg group old → old.opened < length old.lines → TracksStanding (with_proc_in program arg group) old new
 tracks_opened program arg group old new e lt = λ places s stand h.
@@ -221,7 +277,7 @@ tracks_new_proc program arg group n old mid new at made is lt =
 
 -- where a proc has no ready thread
 idle_by : (b : Bool) (places : ℕ) (sched : Schedule) (s : State) → SchedFor places sched s → SchedFor places sched (if b then stuck s else same Idle s).state
-idle_by true places sched s h = record { threads = h.threads; lines = h.lines; procs = h.procs; opened = h.opened; count = h.count; held = record { held = h.held.held } }
+idle_by true places sched s h = record { threads = h.threads; lines = h.lines; words = h.words; opened = h.opened; count = h.count; held = record { held = h.held.held } }
 idle_by false places sched s h = h
 
 passes_if : (b : Bool) (p : ℕ → Bool) (x t : ℕ) (xs rest : List ℕ) → p x ≡ b → cond b (x ∷ xs) xs ≡ t ∷ rest → (xs ≡ t ∷ rest → p t ≡ true) → p t ≡ true
@@ -278,7 +334,7 @@ turned p ready (t ∷ rest) old new at e place free = λ places s h.
     rw n (subst (λ (x : State). SchedFor places (begun p t old) x) (sym now) (record {
       threads = ap (placed t Running) h.threads;
       lines = parts_begun p t rest s.line old thread.thread place.from thread.there thread.mine at first h.lines;
-      procs = h.procs;
+      words = h.words;
       opened = h.opened;
       count = length-changed _ old.lines (p - 1) ∙ h.count;
       held = held_still old _ s _ refl (length-changed _ old.lines (p - 1)) (λ q. held_changed (at_place Running) (place_keeps Running) (t - 1) s.threads q (lock_waiters s.waits)) h.held;

@@ -18,7 +18,8 @@ use Rattle.p9_sched.specs.declared.sched.Sched.TheInside.{Inside}
 use Rattle.p9_sched.specs.Kept.{IsSound, shown}
 use Rattle.p9_sched.specs.Lined.{Lined, line_at, bare, no_lane, holding, joined, cleared, worded}
 use Rattle.p9_sched.specs.Holding.{held_in, is_held, with_held}
-use Rattle.p9_sched.specs.Schedule.{Schedule, Rooms, no_rooms, all_rooms, begun, begin_schedule, IsMade, IsPlace, proc_of, line_in, line_of, with_last, with_new, emptied, all_ended, with_proc_word}
+use Rattle.p9_sched.specs.Rooms.{Rooms, no_rooms, all_rooms}
+use Rattle.p9_sched.specs.Schedule.{Schedule, begun, begin_schedule, IsMade, IsPlace, proc_of, line_in, line_of, with_last, with_new, emptied, ended_in, proc_ended, all_ended, with_proc_word}
 use Rattle.p9_sched.specs.Stored.{Stored, HasId, row_of}
 use Rattle.p9_sched.specs.Turns.{place_of, answer_at, answer_of, first_answer, answer_next, ready_at, ready_of, turn_of, next_in}
 use Rattle.p9_sched.proofs.Asks.{IsAway, IsAlive, away, alive}
@@ -138,6 +139,11 @@ ended_view s v e =
     let words : map (λ (l : Lined). l.word) (map cleared s.lanes) ≡ map (λ (l : Lined). l.word) s.lanes = map-map (λ (l : Lined). l.word) cleared s.lanes in
     let holds : map (λ (l : Lined). l.held) (map cleared s.lanes) ≡ map (λ _. false) (map (λ (l : Lined). l.held) s.lanes) = map-map (λ (l : Lined). l.held) cleared s.lanes ∙ sym (map-map (λ (_ : Bool). false) (λ (l : Lined). l.held) s.lanes) in
     subst (λ (u : Schedule). ended_shown s ≡ all_ended u) e (rw (lines, words, holds) refl)
+
+-- all threads of a proc have ended, and it was released
+pub proc_ended_view : (s : Inside) (v : Schedule) (p : ℕ) → shown s ≡ v → after s (map (ended_in p)) cleared p ≡ proc_ended p v
+proc_ended_view s v p e =
+    subst (λ (u : Schedule). after s (map (ended_in p)) cleared p ≡ proc_ended p u) e (rw (map-changed (λ (l : Lined). l.line) cleared (λ _. []) (λ l. refl) s.lanes (p - 1), map-changed_same (λ (l : Lined). l.word) cleared (λ l. refl) s.lanes (p - 1), map-changed (λ (l : Lined). l.held) cleared (λ _. false) (λ l. refl) s.lanes (p - 1)) refl)
 
 abbrev made_shown : Inside → ℕ → ℕ → ℕ → ℕ → ℕ → Schedule
 made_shown s p program arg group t =

@@ -5,6 +5,7 @@ pub mod Made
 pub mod Marks
 pub mod Members
 pub mod Messages
+pub mod Rooms
 pub mod Schedule
 pub mod Stands
 pub mod Stored

@@ -1,13 +1,13 @@
 -- Which message a reply carries.
 use Rattle.std.specs.Prelude.{ℕ, ◌≡◌, List}
 use Rattle.p9_word.specs.declared.answer.Answer.{Answer}
-use Rattle.p9_word.specs.declared.answer.Answer.TheVariants.{Done, Sent, Got, Index, NoBlock, Closed, Number, Minus, Met, Text, Io as IoAnswered, Bad}
+use Rattle.p9_word.specs.declared.answer.Answer.TheVariants.{Done, Sent, Got, Index, NoBlock, Closed, Interrupted, Number, Minus, Met, Text, Io as IoAnswered, Bad}
 use Rattle.p9_word.specs.declared.answer.IoAnswer.{IoAnswer}
 use Rattle.p9_word.specs.declared.answer.IoAnswer.TheVariants as answer
 use Rattle.p9_word.specs.declared.io_call.IoCall.{IoCall}
 use Rattle.p9_word.specs.declared.io_call.IoCall.TheVariants.{IoOpen, IoReadN, IoWrite, IoClose}
 use Rattle.p9_word.specs.declared.trail.Reply.{Reply}
-use Rattle.p9_word.specs.declared.trail.Reply.TheVariants.{Now, Waits, Ended, Begin, Turn, Idle, Over, Stuck, Stray, Took, Noted}
+use Rattle.p9_word.specs.declared.trail.Reply.TheVariants.{Now, Waits, Ended, Begin, Turn, Caught, Died, Idle, Over, Stuck, Stray, Took, Noted}
 
 -- m is the message of the answer of an ioproc, if it has one
 abbrev pub IsOfIoAnswer : IoAnswer → List ℕ → Type 0
@@ -27,6 +27,7 @@ IsOfAnswer Done m = Unit {0}
 IsOfAnswer Sent m = Unit {0}
 IsOfAnswer NoBlock m = Unit {0}
 IsOfAnswer Closed m = Unit {0}
+IsOfAnswer Interrupted m = Unit {0}
 IsOfAnswer (Number n) m = Unit {0}
 IsOfAnswer Minus m = Unit {0}
 IsOfAnswer (Met value) m = Unit {0}
@@ -48,6 +49,8 @@ IsOfReply (Took call) m = IsOfCall call m
 IsOfReply Waits m = Unit {0}
 IsOfReply Ended m = Unit {0}
 IsOfReply (Begin t program arg) m = Unit {0}
+IsOfReply (Caught id) m = Unit {0}
+IsOfReply (Died note) m = m ≡ note
 IsOfReply Idle m = Unit {0}
 IsOfReply Over m = Unit {0}
 IsOfReply Stuck m = Unit {0}

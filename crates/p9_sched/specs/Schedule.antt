@@ -1,6 +1,6 @@
 -- What callers see of the threads and procs: the threads by their ids, and for each proc place the ready threads of that
 -- proc in their order. thread(2).
-use Rattle.std.specs.Prelude.{ℕ, ◌+◌, ◌-◌, ◌==◌, ◌≤◌, Bool, true, false, not, List, [], ◌∷◌, ◌++◌, Option, Some, None, length, map, drop, replicate}
+use Rattle.std.specs.Prelude.{ℕ, ◌+◌, ◌-◌, ◌==◌, ◌≤◌, Bool, false, not, List, [], ◌∷◌, ◌++◌, Option, Some, None, length, map, drop, replicate, if◌then◌else◌}
 use Rattle.std.specs.List.{filter}
 use Rattle.p9_word.specs.declared.answer.Answer.{Answer}
 use Rattle.p9_manual.specs.declared.state.Place.TheVariants.{Running, Ready, Waiting, Ended}
@@ -9,12 +9,7 @@ use Rattle.p9_manual.specs.State.{by_id, changed, placed}
 use Rattle.p9_manual.specs.Create.{fresh}
 use Rattle.p9_manual.specs.Ends.{at_end}
 use Rattle.p9_manual.specs.Threads.{in_group, with_name, with_word}
-
--- whether a reserve gave room for one further thread, name and group that wasn't used since
-pub record Rooms : Type 0 where
-  pub thread : Bool
-  pub name : Bool
-  pub group : Bool
+use Rattle.p9_sched.specs.Rooms.{Rooms, no_rooms}
 
 -- threads stand by their ids, lines, words and whether it is held by their procs, from 1 on; opened counts the procs that are
 -- open
@@ -25,12 +20,6 @@ pub record Schedule : Type 0 where
   pub holds : List Bool
   pub opened : ℕ
   pub rooms : Rooms
-
-abbrev pub all_rooms : Rooms
-all_rooms = record { thread = true; name = true; group = true }
-
-abbrev pub no_rooms : Rooms
-no_rooms = record { thread = false; name = false; group = false }
 
 -- no thread was made
 abbrev pub begin_schedule : ℕ → ℕ → Schedule
@@ -116,6 +105,18 @@ ended t s =
     record s {
       threads = placed t Ended s.threads;
       lines = changed (without t) s.lines (proc_of (by_id s.threads t) - 1);
+    }
+
+-- all threads of proc p have ended, and it isn't held any more
+abbrev pub ended_in : ℕ → Thread → Thread
+ended_in p thread = if thread.proc_no == p then at_end thread else thread
+
+abbrev pub proc_ended : ℕ → Schedule → Schedule
+proc_ended p s =
+    record s {
+      threads = map (ended_in p) s.threads;
+      lines = changed (λ _. []) s.lines (p - 1);
+      holds = changed (λ _. false) s.holds (p - 1);
     }
 
 abbrev pub emptied : List ℕ → List ℕ

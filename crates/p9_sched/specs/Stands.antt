@@ -1,5 +1,5 @@
 -- What a schedule stands for of a manual's state, and when a call does to the schedule what the manual does to the state.
-use Rattle.std.specs.Prelude.{ℕ, ◌≡◌, ◌≤◌, ◌+◌, true, false, [], List, length, map}
+use Rattle.std.specs.Prelude.{ℕ, ◌≡◌, ◌≤◌, ◌+◌, true, false, List, length, map}
 use Rattle.std.specs.List.{filter}
 use Rattle.p9_word.specs.declared.request.Request.{Request}
 use Rattle.p9_manual.specs.Create.{with_thread}
@@ -8,13 +8,9 @@ use Rattle.p9_manual.specs.LockWaits.{is_holding, lock_waiter_of, lock_waiters}
 use Rattle.p9_manual.specs.Next.{first_ready, next_of}
 use Rattle.p9_manual.specs.Places.{is_of, runs_in}
 use Rattle.p9_manual.specs.Standing.{StandOnce, times}
-use Rattle.p9_manual.specs.State.{State, Proc, by_id}
+use Rattle.p9_manual.specs.State.{State, by_id}
 use Rattle.p9_sched.specs.Holding.{is_held}
 use Rattle.p9_sched.specs.Schedule.{Schedule, line_of}
-
--- a proc place with this word
-abbrev pub proc_with : ℕ → Proc
-proc_with word = record { word = word; handlers = []; pending = [] }
 
 -- each proc's line is that proc's part of the line of all ready threads
 pub record AreLines (sched : Schedule) (line : List ℕ) : Type 0 where
@@ -29,7 +25,7 @@ pub record AreHeld (sched : Schedule) (s : State) : Type 0 where
 pub record SchedFor (places : ℕ) (sched : Schedule) (s : State) : Type 0 where
   pub threads : s.threads ≡ sched.threads
   pub lines : AreLines sched s.line
-  pub procs : s.procs ≡ map proc_with sched.words
+  pub words : map (λ p. p.word) s.procs ≡ sched.words
   pub opened : s.opened ≡ sched.opened
   pub count : length sched.lines ≡ places
   pub held : AreHeld sched s
@@ -42,6 +38,11 @@ Tracks f old new = (places : ℕ) (s : State) → SchedFor places old s → Sche
 abbrev pub TracksStanding : (State → State) → Schedule → Schedule → Type 0
 TracksStanding f old new =
     (places : ℕ) (s : State) → StandOnce s.threads s.line s.waits → SchedFor places old s → SchedFor places new (f s)
+
+-- the same for each state in which thread t waits, but not so that its proc is held
+abbrev pub TracksBeside : ℕ → (State → State) → Schedule → Schedule → Type 0
+TracksBeside t f old new =
+    (places : ℕ) (s : State) → is_holding t (lock_waiters s.waits) ≡ false → SchedFor places old s → SchedFor places new (f s)
 
 -- the state once proc p was given its next turn
 abbrev pub after_next : ℕ → State → State

@@ -1,9 +1,9 @@
 -- How the table of threads keeps them: a row for each, and the groups and names of those that have one.
-use Rattle.std.specs.Prelude.{ℕ, suc, ◌≤◌, false, List, [], ◌∷◌, ◌++◌, Option, unwrap_or, length}
+use Rattle.std.specs.Prelude.{ℕ, suc, ◌≤◌, ◌==◌, false, List, [], ◌∷◌, ◌++◌, Option, unwrap_or, length, if◌then◌else◌}
 use Rattle.p9_manual.specs.declared.state.Place.TheVariants.{Ended}
 use Rattle.p9_manual.specs.declared.state.Thread.{Thread}
 use Rattle.p9_manual.specs.Create.{fresh}
-use Rattle.p9_sched.specs.Schedule.{Rooms}
+use Rattle.p9_sched.specs.Rooms.{Rooms}
 use Rattle.p9_sched.specs.declared.row.Row.{Row}
 
 -- the threads by their ids, and which rooms are there
@@ -50,6 +50,10 @@ row_of thread =
 -- a row of a thread that has ended
 abbrev pub row_ended : Row → Row
 row_ended row = record row { place = Ended }
+
+-- the row, where each thread of proc p has ended
+abbrev pub row_ended_in : ℕ → Row → Row
+row_ended_in p row = if row.proc_no == p then row_ended row else row
 
 -- a new thread has the next id
 abbrev pub with_fresh : ℕ → ℕ → ℕ → ℕ → Stored → Stored

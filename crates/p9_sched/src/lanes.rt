@@ -200,6 +200,15 @@ impl Lanes {
         clear_each(&mut self.all);
     }
 
+    /// No thread of a proc lives any more, and it isn't held.
+    pub fn clear_one(&mut self, p: u32)
+        requires { HasId p self.old }
+        ensures { self.new ≡ changed cleared self.old (p - 1) }
+    {
+        let lane = &mut self.all[p as usize - 1];
+        lane.clear();
+    }
+
     /// The first thread in the line of a proc runs. `None` where the line is empty, and then nothing changes.
     pub fn start(&mut self, p: u32) -> Option<Tid>
         requires { HasId p self.old }

@@ -3,17 +3,19 @@ ghost use Rattle.std.specs.List.{list_any};
 ghost use Rattle.std.specs.Option.{option_copied};
 ghost use Rattle.p9_word.specs.declared.request.Request.{Request};
 ghost use Rattle.p9_manual.specs.Create.{with_thread};
-ghost use Rattle.p9_manual.specs.Ends.{ended as state_ended, all_ended as state_all_ended};
-ghost use Rattle.p9_manual.specs.Places.{lives, runs, runs_in, runs_there, lives_in};
+ghost use Rattle.p9_manual.specs.Ends.{ended as state_ended, proc_ended as state_proc_ended, all_ended as state_all_ended};
+ghost use Rattle.p9_manual.specs.Interrupt.{marked};
+ghost use Rattle.p9_manual.specs.Places.{is_marked, is_of, lives, runs, runs_in, runs_there, lives_in};
 ghost use Rattle.p9_manual.specs.Standing.{times};
 ghost use Rattle.p9_manual.specs.State.{by_id, readied as state_readied, waiting as state_waiting, wake};
 ghost use Rattle.p9_manual.specs.Threads.{with_changed, in_group, with_name, with_word, set_proc_word};
 ghost use Rattle.p9_sched.specs.Made.{RefusesThread, AddsThread, RefusesProc, AddsProc};
 ghost use Rattle.p9_sched.specs.Holding.{is_held, readied_first, with_held};
-ghost use Rattle.p9_sched.specs.Marks.{mark_of, marked_thread, with_mark_of};
+ghost use Rattle.p9_sched.specs.Marks.{with_mark_of};
 ghost use Rattle.p9_sched.specs.Members.{NextMember, NoMember};
-ghost use Rattle.p9_sched.specs.Schedule.{IsMade, IsPlace, begin_schedule, all_rooms, readied, waiting, ended, all_ended, proc_of, group_of, name_of, word_of, line_of, with_group_of, with_name_of, with_word_of, with_proc_word};
-ghost use Rattle.p9_sched.specs.Stands.{IsWaitBeside, IsWaitHolding, Tracks, TracksHolder, TracksStanding, after_next, with_proc_in};
+ghost use Rattle.p9_sched.specs.Rooms.{all_rooms};
+ghost use Rattle.p9_sched.specs.Schedule.{IsMade, IsPlace, begin_schedule, readied, waiting, ended, proc_ended, all_ended, proc_of, group_of, name_of, word_of, line_of, with_group_of, with_name_of, with_word_of, with_proc_word};
+ghost use Rattle.p9_sched.specs.Stands.{IsWaitBeside, IsWaitHolding, Tracks, TracksBeside, TracksHolder, TracksStanding, after_next, with_proc_in};
 ghost use Rattle.p9_sched.specs.Turns.{place_of, next_in, is_ready_in, answer_next, can_run};
 
 use crate::lanes::Lanes;
@@ -112,6 +114,7 @@ impl Sched {
         ensures ready { self.new ≡ readied t answer self.old }
         ensures place { IsPlace (proc_of (by_id self.old.threads t)) self.old }
         ensures stands { Tracks (state_readied t answer) self.old self.new }
+        ensures wakes { place_of (by_id self.old.threads t) ≡ Place.Waiting → TracksBeside t (wake t answer) self.old self.new }
     {
         let p = self.table.row(t).proc_no;
         self.table.put(t, p9_manual::Place::Ready(answer));
@@ -199,6 +202,16 @@ impl Sched {
         self.lanes.leave(p, t);
     }
 
+    /// Ends all threads of a proc, in one pass, and releases it.
+    pub fn end_proc(&mut self, p: u32)
+        requires { IsPlace p self.old }
+        ensures ended { self.new ≡ proc_ended p self.old }
+        ensures stands { TracksStanding (state_proc_ended p) self.old self.new }
+    {
+        self.table.end_proc(p);
+        self.lanes.clear_one(p);
+    }
+
     /// Ends all threads.
     pub fn end_all(&mut self)
         ensures ended { self.new ≡ all_ended self.old }
@@ -273,6 +286,13 @@ impl Sched {
         ensures place { IsPlace result self.now }
     {
         self.table.row(t).proc_no
+    }
+
+    /// Whether a thread was made and is one of proc p.
+    pub fn is_of(&self, t: Tid, p: u32) -> bool
+        ensures { result ≡ is_of p (by_id self.now.threads t) }
+    {
+        self.is_made(t) && self.proc_of(t) == p
     }
 
     /// The thread that runs in a proc, or `None` where none runs there.
@@ -372,7 +392,7 @@ impl Sched {
     pub fn mark(&mut self, t: Tid)
         requires { IsMade t self.old }
         ensures mark { self.new ≡ with_mark_of t self.old }
-        ensures stands { Tracks (with_changed marked_thread t) self.old self.new }
+        ensures stands { place_of (by_id self.old.threads t) ≢ Place.Ended → Tracks (marked t) self.old self.new }
     {
         self.table.mark(t);
     }
@@ -380,7 +400,7 @@ impl Sched {
     /// Whether a thread is marked to die. A new one isn't.
     pub fn is_marked(&self, t: Tid) -> bool
         requires { IsMade t self.now }
-        ensures { result ≡ mark_of (by_id self.now.threads t) }
+        ensures { result ≡ is_marked (by_id self.now.threads t) }
     {
         self.table.row(t).marked
     }

@@ -2,14 +2,15 @@ ghost use Rattle.std.specs.Prelude.{◌≡◌, ◌↔◌, IsTrue, ◌+◌, ◌-�
 ghost use Rattle.p9_manual.specs.State.{by_id, changed, placed};
 ghost use Rattle.p9_manual.specs.Ends.{at_end};
 ghost use Rattle.p9_manual.specs.Threads.{in_group, with_name, with_word};
-ghost use Rattle.p9_sched.specs.Marks.{marked_thread};
+ghost use Rattle.p9_manual.specs.Interrupt.{with_mark};
 ghost use Rattle.p9_sched.specs.Members.{is_member, NextMember, NoMember};
-ghost use Rattle.p9_sched.specs.Schedule.{all_rooms, no_rooms, group_of, name_of};
+ghost use Rattle.p9_sched.specs.Rooms.{all_rooms, no_rooms};
+ghost use Rattle.p9_sched.specs.Schedule.{ended_in, group_of, name_of};
 ghost use Rattle.p9_sched.specs.Stored.{HasId, row_of, with_fresh};
 
 use crate::entries::{note_group, put_group, put_name};
 use crate::row::Row;
-use crate::rows::end_each;
+use crate::rows::{end_each, end_in};
 use indexmap::IndexMap;
 use p9_manual::Place;
 use p9_word::limits::MOST_THREADS;
@@ -134,6 +135,13 @@ impl Table {
         mem::replace(&mut row.place, place)
     }
 
+    /// All threads of proc p have ended.
+    pub fn end_proc(&mut self, p: u32)
+        ensures { self.new ≡ record self.old { threads = map (ended_in p) self.old.threads } }
+    {
+        end_in(&mut self.rows, p);
+    }
+
     /// All threads have ended.
     pub fn end_all(&mut self)
         ensures { self.new ≡ record self.old { threads = map at_end self.old.threads } }
@@ -201,7 +209,7 @@ impl Table {
     /// Marks a thread to die.
     pub fn mark(&mut self, t: Tid)
         requires { HasId t self.old.threads }
-        ensures { self.new ≡ record self.old { threads = changed marked_thread self.old.threads (t - 1) } }
+        ensures { self.new ≡ record self.old { threads = changed with_mark self.old.threads (t - 1) } }
     {
         let row = &mut self.rows[t as usize - 1];
         row.marked = true;

@@ -1,5 +1,5 @@
 use Rattle.std.proofs.Common.{◌≡◌, []}
-use Rattle.p9_sched.specs.Schedule.{no_rooms}
+use Rattle.p9_sched.specs.Rooms.{no_rooms}
 use Rattle.p9_sched.proofs.Sound.{first_sound}
 use Rattle.p9_sched.proofs.Views.{first_view}
 use Rattle.p9_sched.proofs.sched.Sched.new.Goals as goal

@@ -7,7 +7,7 @@ use Rattle.p9_sched.proofs.Keeping.{queued_lane}
 use Rattle.p9_sched.proofs.Lists.{id_of}
 use Rattle.p9_sched.proofs.Sound.{moved, proc_is, room_for}
 use Rattle.p9_sched.proofs.Views.{away_here, row_proc, seen_proc, seen_place, moved_view}
-use Rattle.p9_sched.proofs.Tracks.{tracks_readied}
+use Rattle.p9_sched.proofs.Tracks.{tracks_beside, tracks_readied}
 use Rattle.p9_sched.proofs.sched.Sched.ready.Goals as goal
 
 pub row-requires : goal.row-requires
@@ -50,3 +50,6 @@ returns-clause-place c =
 
 pub returns-clause-stands : goal.returns-clause-stands
 returns-clause-stands c = tracks_readied c.args.t c.args.answer c.args.self.now _ (returns-clause-ready c) (returns-clause-place c)
+
+pub returns-clause-wakes : goal.returns-clause-wakes
+returns-clause-wakes c _ = tracks_beside c.args.t c.args.answer c.args.self.now _ (returns-clause-ready c) (returns-clause-place c)

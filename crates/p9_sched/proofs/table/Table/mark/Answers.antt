@@ -1,5 +1,5 @@
 use Rattle.std.proofs.Common.{ap, true, refl, arith, ◌-◌}
-use Rattle.p9_sched.specs.Marks.{marked_thread}
+use Rattle.p9_manual.specs.Interrupt.{with_mark}
 use Rattle.p9_manual.specs.State.{changed}
 use Rattle.p9_sched.specs.Stored.{Stored}
 use Rattle.p9_sched.proofs.Seen.{seen_length, seen_set}
@@ -13,5 +13,5 @@ index_mut-row-requires c =
 pub returns : goal.returns
 returns c =
     let at = c.index_mut-row.ensures.value in
-    let e = seen_set c.self.inside c.args.self.now marked_thread c.args.t c.index_mut-row.result.now (record c.index_mut-row.result.now { marked = true }) c.self.view_is c.requires (λ u. rw (← at) refl) in
-    rw e (ap (λ (w : Stored). record { threads = changed marked_thread c.args.self.now.threads (c.args.t - 1); rooms = w.rooms }) c.self.view_is)
+    let e = seen_set c.self.inside c.args.self.now with_mark c.args.t c.index_mut-row.result.now (record c.index_mut-row.result.now { marked = true }) c.self.view_is c.requires (λ u. rw (← at) refl) in
+    rw e (ap (λ (w : Stored). record { threads = changed with_mark c.args.self.now.threads (c.args.t - 1); rooms = w.rooms }) c.self.view_is)
