@@ -7,3 +7,4 @@ pub mod Numbers
 pub mod Changes
 pub mod Sends
 pub mod Waits
+pub mod Withdrawing

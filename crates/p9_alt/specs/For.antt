@@ -14,3 +14,7 @@ AreAlike a b = map emptied_chan a ≡ map emptied_chan b
 pub record AltsFor (alts : Exchange) (s : State) : Type 0 where
   pub waits : alts.waits ≡ parties s.waits
   pub chans : AreAlike alts.channels.chans s.chans
+
+-- whatever state the old alts stand for, the new ones stand for what f makes of it
+abbrev pub Tracks : (State → State) → Exchange → Exchange → Type 0
+Tracks f old new = (s : State) → AltsFor old s → AltsFor new (f s)

@@ -10,7 +10,9 @@ ghost use Rattle.p9_chan.specs.Channels.{IsMade, chan_of, is_closed_in, emptied,
 ghost use Rattle.p9_alt.specs.Exchange.{others, HasMemory, NoSendOnClosed, IsIdle, AreBefore, offer_of, wake_of, chans_after, waits_after, pair_of, closed_on, shown_alt};
 ghost use Rattle.p9_alt.specs.Offered.{caller, offered};
 ghost use Rattle.p9_alt.specs.Passing.{AreUnmet, meets, nth_deal, IsDealt, IsLeft};
-ghost use Rattle.p9_alt.specs.Withdrawn.{withdrawn};
+ghost use Rattle.p9_alt.specs.Withdrawn.{withdrawn, withdrawn_where};
+ghost use Rattle.p9_alt.specs.For.{Tracks};
+ghost use Rattle.p9_manual.specs.Ends.{off_waits};
 
 use crate::answers::fail_all;
 use crate::commit::{Done, Turn, commit};
@@ -22,7 +24,7 @@ use crate::ready::{most_zeros, ready_count, ready_from, ready_number, zeros_for}
 use crate::side::Side;
 use crate::zeros::Zeros;
 use p9_chan::Chans;
-use p9_manual::Party;
+use p9_manual::{Gone, Party};
 use p9_word::limits::MOST_ENTRIES;
 use p9_word::{AltEntry, Ending, NoMemory, Room, Seq, Tid};
 use std::alloc::Global;
@@ -293,6 +295,7 @@ impl Alts {
         ensures waited { result ≡ list_any (λ w. w.tid == tid) self.old.waits }
         ensures after { self.new ≡ withdrawn tid self.old }
         ensures stays { result ≡ false → self.new ≡ self.old }
+        ensures stands { Tracks (off_waits (λ t. t == tid)) self.old self.new }
     {
         match thread_out(&mut self.waits, tid) {
             Some(w) => {
@@ -303,12 +306,12 @@ impl Alts {
         }
     }
 
-    /// Nobody waits any more, and nobody is woken.
-    pub fn withdraw_all(&mut self)
-        ensures channels { self.new.channels ≡ self.old.channels }
-        ensures waits { self.new.waits ≡ [] }
+    /// The alts of the threads that end leave the waits, in one pass, and nobody is woken.
+    pub fn withdraw_where<E: Gone>(&mut self, ending: &E)
+        ensures after { self.new ≡ withdrawn_where (E.ends ending.now) self.old }
+        ensures stands { Tracks (off_waits (E.ends ending.now)) self.old self.new }
     {
-        self.waits.clear();
+        self.waits.retain(|w| !ending.has(w.tid));
     }
 
     /// Whether a thread that waits has an entry on channel c.
