@@ -1,5 +1,6 @@
 -- What callers see of the locks and of the threads that wait at them, and what each call changes. lock(2), rendezvous(2).
-use Rattle.std.specs.Prelude.{ℕ, ◌≡◌, Bool, false, List, [], Option, Some, None, replicate, length, IsSome}
+use Rattle.std.specs.List.{filter}
+use Rattle.std.specs.Prelude.{ℕ, ◌≡◌, Bool, false, not, List, [], Option, Some, None, replicate, length, IsSome}
 use Rattle.p9_word.specs.Setup.{IsBetween}
 use Rattle.p9_manual.specs.declared.locks.Sort.{Sort}
 use Rattle.p9_manual.specs.declared.locks.Sort.TheVariants as sort
@@ -68,6 +69,10 @@ slept g x = record x { holds = g.holds; waits = g.waits; room = false }
 -- thread t waits no more: the others wait as before, and nobody is granted a lock
 abbrev pub left_by : ℕ → Locking → Locking
 left_by t x = record x { waits = others t x.waits }
+
+-- these threads wait no more: the others wait as before, and nobody is granted a lock
+abbrev pub left_where : (ℕ → Bool) → Locking → Locking
+left_where ends x = record x { waits = filter (λ w. not (ends w.tid)) x.waits }
 
 -- the QLock of Rendez r; no QLock is number 0
 abbrev pub qlock_of : ℕ → Locking → ℕ

@@ -2,7 +2,7 @@
 -- rendezvous(2).
 use Rattle.std.specs.Prelude.{ℕ, ◌≡◌, List}
 use Rattle.p9_manual.specs.LockWaits.{lock_waiters}
-use Rattle.p9_manual.specs.State.{State, waits_without}
+use Rattle.p9_manual.specs.State.{State}
 use Rattle.p9_lock.specs.Locking.{Locking}
 
 -- the locks, with Rendezes on these QLocks, stand for who holds the locks of a state and who waits there
@@ -14,7 +14,3 @@ pub record LocksFor (rendezes : List ℕ) (locks : Locking) (s : State) : Type 0
 -- whatever state the old locks stand for, the new ones stand for what f makes of it
 abbrev pub Tracks : (State → State) → Locking → Locking → Type 0
 Tracks f old new = (rendezes : List ℕ) (s : State) → LocksFor rendezes old s → LocksFor rendezes new (f s)
-
--- the state in which thread t waits no more, and all else is as before
-abbrev pub without_wait : ℕ → State → State
-without_wait t s = record s { waits = waits_without t s.waits }

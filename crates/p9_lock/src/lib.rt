@@ -5,6 +5,7 @@ pub mod examples;
 mod holders;
 mod locks;
 mod meet;
+mod meeting;
 mod readers;
 mod waits;
 

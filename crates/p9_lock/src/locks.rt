@@ -1,4 +1,4 @@
-ghost use Rattle.std.specs.Prelude.{[], ◌≡◌, ◌↔◌, ◌≤◌, ◌+◌, ◌++◌, None, false, true, length, is_some, IfNone, IfOk, IfSome, IsSome, IsTrue, OnErr, OnOk};
+ghost use Rattle.std.specs.Prelude.{◌≡◌, ◌==◌, ◌↔◌, ◌≤◌, ◌+◌, ◌++◌, None, false, true, length, is_some, IfNone, IfOk, IfSome, IsSome, IsTrue, OnErr, OnOk};
 ghost use Rattle.std.specs.Option.{option_to_list};
 ghost use Rattle.p9_manual.specs.Claims.{attempt, can_get, claim, has_lock, holder_of, rw_hold, with_hold};
 ghost use Rattle.p9_manual.specs.Queues.{readers_in, readers_left, waits_for, without_first};
@@ -7,15 +7,16 @@ ghost use Rattle.p9_manual.specs.Rendez.{count_woken, sleep, sleepers, wakeup, w
 ghost use Rattle.p9_manual.specs.Rendezvous.{partner, rendezvous};
 ghost use Rattle.p9_manual.specs.State.{by_id};
 ghost use Rattle.p9_manual.specs.Unlocks.{first_for, release};
-ghost use Rattle.p9_lock.specs.Locking.{IsIdle, IsLock, IsRef, begin_locking, claimed, granted, left_by, meet_of, passed_on, qlock_of, slept, value_in, with_ref};
-ghost use Rattle.p9_lock.specs.Stands.{Tracks, without_wait};
+ghost use Rattle.p9_lock.specs.Locking.{IsIdle, IsLock, IsRef, begin_locking, claimed, granted, left_by, left_where, meet_of, passed_on, qlock_of, slept, value_in, with_ref};
+ghost use Rattle.p9_lock.specs.Stands.{Tracks};
+ghost use Rattle.p9_manual.specs.Ends.{off_waits};
 ghost use Rattle.p9_lock.specs.Waiting.{held_so, wait_of};
 
 use crate::holders;
 use crate::meet::Meet;
 use crate::readers::RwLocks;
 use crate::waits::Waits;
-use p9_manual::{LockWait, Sort};
+use p9_manual::{Gone, LockWait, Sort};
 use p9_word::{NoMemory, Room, Seq, Tid};
 use std::alloc::Global;
 use std::marker::Model;
@@ -30,7 +31,7 @@ pub struct Locks {
     rwlocks: RwLocks,
     rendezes: Vec<u32>,
     refs: Vec<u64>,
-    waits: Waits,
+    pub(crate) waits: Waits,
 }
 
 impl Model for Locks {
@@ -431,21 +432,22 @@ impl Locks {
 
     /// Thread t leaves the queue, the tag or the Rendez where it waits. Who holds the locks stays, and nobody is granted one. It is
     /// false exactly where t waits at none, and then nothing changes.
-    #[tactic(auto, using(crate::proofs::Leaving::leaves_state))]
     pub fn leave(&mut self, t: Tid) -> bool
         ensures waited { result ≡ is_some (wait_of t self.old.waits) }
         ensures after { self.new ≡ left_by t self.old }
         ensures stays { result ≡ false → self.new ≡ self.old }
-        ensures stands { Tracks (without_wait t) self.old self.new }
+        ensures stands { Tracks (off_waits (λ u. u == t)) self.old self.new }
     {
         self.waits.leave(t)
     }
 
-    /// Nobody waits any more, since all threads have ended; who holds the locks stays.
-    pub fn end_all(&mut self)
-        ensures { self.new ≡ record self.old { waits = []; room = false } }
+    /// The threads that end leave the queues, the tags and the Rendezes where they wait, in one pass. Who holds the locks stays, and
+    /// nobody is granted one.
+    pub fn leave_where<E: Gone>(&mut self, ending: &E)
+        ensures after { self.new ≡ left_where (E.ends ending.now) self.old }
+        ensures stands { Tracks (off_waits (E.ends ending.now)) self.old self.new }
     {
-        self.waits.clear();
+        self.waits.leave_where(ending);
     }
 
     /// RWLock k has no holder but these readers, if any: it is granted to the writer at the head of its queue, or else to all

@@ -1,11 +1,11 @@
-ghost use Rattle.std.specs.Prelude.{◌≡◌, ◌≤◌, ◌<◌, ◌+◌, ◌^◌, ◌==◌, ◌++◌, [], false, true, length, is_some, OnOk, OnErr, OnSome, IfNone, position, vec_len, vec_capacity};
-ghost use Rattle.std.specs.List.{find, list_any};
+ghost use Rattle.std.specs.Prelude.{◌≡◌, ◌≤◌, ◌<◌, ◌+◌, ◌^◌, ◌==◌, ◌++◌, [], false, true, not, length, is_some, OnOk, OnErr, OnSome, IfNone, position, vec_len, vec_capacity};
+ghost use Rattle.std.specs.List.{filter, find, list_any};
 ghost use Rattle.std.specs.Option.{option_copied, option_to_list};
 ghost use Rattle.p9_manual.specs.Queues.{waits_for, waits_at_rw, without_first, writer_first, readers_in, readers_left, joined};
 ghost use Rattle.p9_manual.specs.Rendez.{sleepers, wakeup, wakeup_all};
 ghost use Rattle.p9_lock.specs.Waiting.{others, wait_of};
 
-use p9_manual::{LockWait, LockWaiter, Sort};
+use p9_manual::{Gone, LockWait, LockWaiter, Sort};
 use p9_word::{NoMemory, Tid};
 use std::alloc::Global;
 use std::marker::Model;
@@ -123,14 +123,6 @@ impl Waits {
         self.room = false;
     }
 
-    /// Nobody waits any more.
-    pub fn clear(&mut self)
-        ensures { self.new ≡ record self.old { waits = []; room = false } }
-    {
-        self.items.clear();
-        self.room = false;
-    }
-
     /// A thread waits, behind all others.
     pub fn join(&mut self, tid: Tid, what: LockWait, value: u64)
         requires { self.old.room ≡ true }
@@ -164,6 +156,15 @@ impl Waits {
         ensures less { length self.new.waits ≤ length self.old.waits }
     {
         leave(&mut self.items, tid)
+    }
+
+    /// The threads that end wait no more.
+    pub fn leave_where<E: Gone>(&mut self, ending: &E)
+        ensures waits { self.new.waits ≡ filter (λ w. not (E.ends ending.now w.tid)) self.old.waits }
+        ensures room { self.new.room ≡ self.old.room }
+        ensures less { length self.new.waits ≤ length self.old.waits }
+    {
+        leave_where(&mut self.items, ending);
     }
 
     /// The first that waits for this waits no more.
@@ -246,6 +247,15 @@ fn leave(waits: &mut Vec<LockWaiter>, tid: Tid) -> bool
     let waited = waiter(waits, tid).is_some();
     waits.retain(|w| w.tid != tid);
     waited
+}
+
+/// The threads that end wait no more.
+fn leave_where<E: Gone>(waits: &mut Vec<LockWaiter>, ending: &E)
+    ensures waits { waits.new.items ≡ filter (λ w. not (E.ends ending.now w.tid)) waits.old.items }
+    ensures less { vec_len waits.new ≤ vec_len waits.old }
+    ensures capacity { vec_capacity waits.new ≡ vec_capacity waits.old }
+{
+    waits.retain(|w| !ending.has(w.tid));
 }
 
 /// The first that waits for this waits no more.
