@@ -1,13 +1,13 @@
 -- How many calls are begun, where one ioproc changes or all let threads go.
 use Rattle.std.proofs.Common.{◌≡◌, ℕ, zero, suc, ◌+◌, ◌<◌, ◌≤◌, Bool, true, false, cond, List, [], ◌∷◌, ◌++◌, length, map, Option, Some, None, refl, ap, arith}
-use Rattle.std.specs.Prelude.{◌==◌, ◌||◌, slice_get, OnSome}
+use Rattle.std.specs.Prelude.{◌||◌, slice_get, OnSome}
 use Rattle.std.specs.List.{list_any}
 use Rattle.p9_word.specs.declared.io_call.IoCall.{IoCall}
 use Rattle.p9_word.specs.declared.io_call.Effect.{Effect}
 use Rattle.p9_manual.specs.declared.state.Ioproc.{Ioproc}
 use Rattle.p9_manual.specs.declared.state.Ioproc.TheVariants.{Unmade, Idle, Posted, Begun, Closed}
 use Rattle.p9_manual.specs.State.{changed}
-use Rattle.p9_manual.specs.Ends.{let_go, let_all_go}
+use Rattle.p9_manual.specs.Ends.{Gone, let_go}
 use Rattle.p9_io.specs.declared.effects.Finished.{Finished}
 use Rattle.p9_io.specs.Calls.{begun_weight, begun_count, finish_of}
 
@@ -47,27 +47,16 @@ weight_if : (b : Bool) (u : ℕ) (call : IoCall) → begun_weight (cond b Idle (
 weight_if true u call = refl
 weight_if false u call = refl
 
-weight_let_go : (t : ℕ) (io : Ioproc) → begun_weight (let_go t io) ≡ begun_weight io
-weight_let_go t Unmade = refl
-weight_let_go t Idle = refl
-weight_let_go t (Posted u call) = weight_if (u == t) u call
-weight_let_go t (Begun u call) = refl
-weight_let_go t Closed = refl
+weight_let_go : (ends : Gone) (io : Ioproc) → begun_weight (let_go ends io) ≡ begun_weight io
+weight_let_go ends Unmade = refl
+weight_let_go ends Idle = refl
+weight_let_go ends (Posted u call) = weight_if (ends u) u call
+weight_let_go ends (Begun u call) = refl
+weight_let_go ends Closed = refl
 
-pub count_let_go : (t : ℕ) (ios : List Ioproc) → begun_count (map (let_go t) ios) ≡ begun_count ios
-count_let_go t [] = refl
-count_let_go t (x ∷ ios) = let e = weight_let_go t x in let h = count_let_go t ios in omega arith
-
-weight_abandon : (io : Ioproc) → begun_weight (let_all_go io) ≡ begun_weight io
-weight_abandon Unmade = refl
-weight_abandon Idle = refl
-weight_abandon (Posted u call) = refl
-weight_abandon (Begun u call) = refl
-weight_abandon Closed = refl
-
-pub count_abandon : (ios : List Ioproc) → begun_count (map let_all_go ios) ≡ begun_count ios
-count_abandon [] = refl
-count_abandon (x ∷ ios) = let e = weight_abandon x in let h = count_abandon ios in omega arith
+pub count_let_go : (ends : Gone) (ios : List Ioproc) → begun_count (map (let_go ends) ios) ≡ begun_count ios
+count_let_go ends [] = refl
+count_let_go ends (x ∷ ios) = let e = weight_let_go ends x in let h = count_let_go ends ios in omega arith
 
 pub count_push : (ios : List Ioproc) (io : Ioproc) → begun_count (ios ++ io ∷ []) ≡ begun_count ios + begun_weight io
 count_push [] io = omega arith

@@ -3,7 +3,7 @@ use Rattle.std.specs.Prelude.{ℕ, ◌-◌, Bool, true, false, List, Option, Som
 use Rattle.p9_word.specs.declared.io_call.IoCall.{IoCall}
 use Rattle.p9_manual.specs.declared.state.Ioproc.{Ioproc}
 use Rattle.p9_manual.specs.declared.state.Ioproc.TheVariants.{Unmade, Idle, Posted, Begun, Closed}
-use Rattle.p9_manual.specs.Ends.{let_go, let_all_go}
+use Rattle.p9_manual.specs.Ends.{Gone, let_go}
 use Rattle.p9_manual.specs.State.{changed}
 
 -- the ioprocs by their numbers, from 1 on; for each, whether the buffer of its begun call is still here, and whether there
@@ -51,13 +51,9 @@ with_begun k (Some Idle) d = d
 with_begun k (Some Closed) d = d
 with_begun k None d = d
 
--- thread t has ended
-abbrev pub without : ℕ → Desks → Desks
-without t d = record d { ioprocs = map (let_go t) d.ioprocs }
-
--- all threads have ended
-abbrev pub without_all : Desks → Desks
-without_all d = record d { ioprocs = map let_all_go d.ioprocs }
+-- these threads have ended
+abbrev pub without : Gone → Desks → Desks
+without ends d = record d { ioprocs = map (let_go ends) d.ioprocs }
 
 -- the buffer of the call that ioproc k has begun is handed out
 abbrev pub lent : ℕ → Desks → Desks

@@ -9,7 +9,7 @@ ghost use Rattle.p9_manual.specs.declared.state.Ioproc.TheVariants.{Idle, Closed
 use crate::desk::Desk;
 use crate::desks;
 use crate::effects::Finished;
-use p9_manual::Ioproc;
+use p9_manual::{Gone, Ioproc};
 use p9_word::{Effect, IoCall, NoMemory, Room, Tid};
 use std::alloc::Global;
 use std::marker::Model;
@@ -38,10 +38,10 @@ impl Model for IoBoard {
 }
 
 impl IoBoard {
-    ghost use Rattle.p9_manual.specs.Ends.{ended, all_ended};
+    ghost use Rattle.p9_manual.specs.Ends.{ended_where};
     ghost use Rattle.p9_manual.specs.Ioprocs.{with_ioproc as state_with_ioproc};
     ghost use Rattle.p9_io.specs.Calls.{begun_call, begun_count, finish_of, posted_call};
-    ghost use Rattle.p9_io.specs.Desks.{begin_desks, with_ioproc, posted, prepared, with_begun, without, without_all, lent};
+    ghost use Rattle.p9_io.specs.Desks.{begin_desks, with_ioproc, posted, prepared, with_begun, without, lent};
     ghost use Rattle.p9_io.specs.Stands.{Tracks, state_begun};
 
     /// So many ioprocs, none of which is made.
@@ -157,22 +157,13 @@ impl IoBoard {
         Some(finished)
     }
 
-    /// Lets a thread go that has ended: its posted call is removed, and its begun one goes on for nobody.
-    pub fn let_go(&mut self, t: Tid)
-        ensures board { self.new ≡ without t self.old }
-        ensures stands { Tracks (ended t) self.old self.new }
+    /// Lets the threads that end go, in one pass: a call that one of them posted is removed, and a begun one goes on for nobody.
+    pub fn let_go<E: Gone>(&mut self, ending: &E)
+        ensures board { self.new ≡ without (E.ends ending.now) self.old }
+        ensures stands { Tracks (ended_where (E.ends ending.now)) self.old self.new }
         ensures calls { begun_count self.new.ioprocs ≡ begun_count self.old.ioprocs }
     {
-        desks::let_go(&mut self.desks, t);
-    }
-
-    /// Lets all threads go.
-    pub fn let_all_go(&mut self)
-        ensures board { self.new ≡ without_all self.old }
-        ensures stands { Tracks all_ended self.old self.new }
-        ensures calls { begun_count self.new.ioprocs ≡ begun_count self.old.ioprocs }
-    {
-        desks::let_all_go(&mut self.desks);
+        desks::let_go(&mut self.desks, ending);
     }
 
     /// Hands out the buffer of the call that an ioproc has begun, for the bytes that come of it.

@@ -1,12 +1,12 @@
 ghost use Rattle.std.specs.Prelude.{◌≡◌, ◌≤◌, [], Some, IsSome, IfNone, OnSome, OnOk, OnErr, true, false};
-ghost use Rattle.p9_manual.specs.Ends.{let_go, let_all_go};
+ghost use Rattle.p9_manual.specs.Ends.{let_go};
 ghost use Rattle.p9_manual.specs.Effects.{message_length};
 ghost use Rattle.p9_manual.specs.declared.state.Ioproc.TheVariants.{Idle, Unmade, Posted};
 ghost use Rattle.p9_io.specs.Calls.{begun, begun_call, begun_room, call_length, finish_of, posted_call, posted_room, where_so};
 
 use crate::effects::{Finished, answer_of, fits};
-use crate::ioprocs::{abandoned, begun, let_go, room_needed};
-use p9_manual::Ioproc;
+use crate::ioprocs::{begun, let_go, room_needed};
+use p9_manual::{Gone, Ioproc};
 use p9_word::{Effect, IoCall, NoMemory, Room, Tid};
 use std::alloc::Global;
 use std::mem;
@@ -121,22 +121,13 @@ impl Desk {
         Some(Finished { caller, answer })
     }
 
-    /// Lets thread t go.
-    pub(crate) fn let_go(&mut self, t: Tid)
-        ensures ioproc { self.new.ioproc ≡ let_go t self.old.ioproc }
+    /// Lets the threads that end go.
+    pub(crate) fn let_go<E: Gone>(&mut self, ending: &E)
+        ensures ioproc { self.new.ioproc ≡ let_go (E.ends ending.now) self.old.ioproc }
         ensures here { self.new.is_here ≡ self.old.is_here }
         ensures prepared { self.new.is_prepared ≡ self.old.is_prepared }
     {
-        self.ioproc = let_go(mem::replace(&mut self.ioproc, Ioproc::Idle), t);
-    }
-
-    /// Lets all threads go.
-    pub(crate) fn abandon(&mut self)
-        ensures ioproc { self.new.ioproc ≡ let_all_go self.old.ioproc }
-        ensures here { self.new.is_here ≡ self.old.is_here }
-        ensures prepared { self.new.is_prepared ≡ self.old.is_prepared }
-    {
-        self.ioproc = abandoned(mem::replace(&mut self.ioproc, Ioproc::Idle));
+        self.ioproc = let_go(mem::replace(&mut self.ioproc, Ioproc::Idle), ending);
     }
 
     /// Hands out the buffer of the begun call.

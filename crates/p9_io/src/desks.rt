@@ -7,13 +7,13 @@ ghost use Rattle.p9_manual.specs.State.{by_id};
 ghost use Rattle.p9_manual.specs.Effects.{room_for, message_length};
 ghost use Rattle.p9_manual.specs.declared.state.Ioproc.TheVariants.{Idle, Closed, Unmade};
 ghost use Rattle.p9_io.specs.Calls.{begun_call, begun_count, finish_of, posted_call};
-ghost use Rattle.p9_io.specs.Desks.{begin_desks, with_ioproc, posted, prepared, with_begun, lent, without, without_all};
+ghost use Rattle.p9_io.specs.Desks.{begin_desks, with_ioproc, posted, prepared, with_begun, lent, without};
 ghost use Rattle.p9_io.specs.Kept.{ioprocs_of, rooms_of, prepared_of, shown_of};
 
 use crate::desk::Desk;
 use crate::effects::Finished;
 use crate::ioprocs::has_call;
-use p9_manual::Ioproc;
+use p9_manual::{Gone, Ioproc};
 use p9_word::{Effect, IoCall, NoMemory, Room, Tid};
 use std::alloc::Global;
 
@@ -131,27 +131,15 @@ pub(crate) fn finish(
     desk.finish(effect, alloc)
 }
 
-/// Lets thread t go at each ioproc.
-pub(crate) fn let_go(desks: &mut Vec<Desk>, t: Tid)
-    ensures shown { shown_of desks.new.items ≡ without t (shown_of desks.old.items) }
+/// Lets the threads that end go at each ioproc.
+pub(crate) fn let_go<E: Gone>(desks: &mut Vec<Desk>, ending: &E)
+    ensures shown { shown_of desks.new.items ≡ without (E.ends ending.now) (shown_of desks.old.items) }
     ensures calls { begun_count (ioprocs_of desks.new.items) ≡ begun_count (ioprocs_of desks.old.items) }
 {
     let n = desks.len();
     for i in 0..n {
         let desk = &mut desks[i];
-        desk.let_go(t);
-    }
-}
-
-/// Lets all threads go at each ioproc.
-pub(crate) fn let_all_go(desks: &mut Vec<Desk>)
-    ensures shown { shown_of desks.new.items ≡ without_all (shown_of desks.old.items) }
-    ensures calls { begun_count (ioprocs_of desks.new.items) ≡ begun_count (ioprocs_of desks.old.items) }
-{
-    let n = desks.len();
-    for i in 0..n {
-        let desk = &mut desks[i];
-        desk.abandon();
+        desk.let_go(ending);
     }
 }
 

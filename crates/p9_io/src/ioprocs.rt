@@ -1,10 +1,10 @@
 ghost use Rattle.std.specs.Prelude.{◌≡◌, Some, IsSome};
 ghost use Rattle.p9_manual.specs.Places.{has_call};
-ghost use Rattle.p9_manual.specs.Ends.{let_go, let_all_go};
+ghost use Rattle.p9_manual.specs.Ends.{let_go, kept_caller};
 ghost use Rattle.p9_io.specs.Calls.{begun, posted_call, posted_room};
 
 use crate::effects::room_for;
-use p9_manual::Ioproc;
+use p9_manual::{Gone, Ioproc};
 use p9_word::Tid;
 
 /// The ioproc once its posted call has begun.
@@ -18,37 +18,31 @@ pub(crate) fn begun(ioproc: Ioproc) -> Ioproc
     }
 }
 
-/// The ioproc without thread t.
-pub(crate) fn let_go(ioproc: Ioproc, t: Tid) -> Ioproc
-    ensures { result ≡ let_go t ioproc }
+/// The ioproc without the threads that end.
+pub(crate) fn let_go<E: Gone>(ioproc: Ioproc, ending: &E) -> Ioproc
+    ensures { result ≡ let_go (E.ends ending.now) ioproc }
 {
     match ioproc {
         Ioproc::Unmade => Ioproc::Unmade,
         Ioproc::Idle => Ioproc::Idle,
-        Ioproc::Posted(u, call) => {
-            if u == t {
+        Ioproc::Posted(t, call) => {
+            if ending.has(t) {
                 Ioproc::Idle
             } else {
-                Ioproc::Posted(u, call)
+                Ioproc::Posted(t, call)
             }
         }
-        Ioproc::Begun(None, call) => Ioproc::Begun(None, call),
-        Ioproc::Begun(Some(u), call) => Ioproc::Begun(if u == t { None } else { Some(u) }, call),
+        Ioproc::Begun(caller, call) => Ioproc::Begun(kept_caller(caller, ending), call),
         Ioproc::Closed => Ioproc::Closed,
     }
 }
 
-/// The ioproc without any thread.
-pub(crate) fn abandoned(ioproc: Ioproc) -> Ioproc
-    ensures { result ≡ let_all_go ioproc }
+/// Whom a begun call is for, without the threads that end.
+fn kept_caller<E: Gone>(caller: Option<Tid>, ending: &E) -> Option<Tid>
+    ensures { result ≡ kept_caller (E.ends ending.now) caller }
 {
-    match ioproc {
-        Ioproc::Unmade => Ioproc::Unmade,
-        Ioproc::Idle => Ioproc::Idle,
-        Ioproc::Posted(..) => Ioproc::Idle,
-        Ioproc::Begun(_, call) => Ioproc::Begun(None, call),
-        Ioproc::Closed => Ioproc::Closed,
-    }
+    let t = caller?;
+    if ending.has(t) { None } else { Some(t) }
 }
 
 /// The room for the bytes of the posted call.
