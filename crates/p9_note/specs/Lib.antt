@@ -1,3 +1,4 @@
 pub mod Examples
+pub mod For
 pub mod Kept
 pub mod ProcNotes

@@ -1,4 +1,5 @@
-ghost use Rattle.std.specs.Prelude.{◌≡◌, false, true, is_some, OnErr, OnOk};
+ghost use Rattle.std.specs.Option.{option_copied};
+ghost use Rattle.std.specs.Prelude.{◌≡◌, false, true, is_some, slice_get, OnErr, OnOk};
 ghost use Rattle.p9_manual.specs.Notes.{removed, added};
 ghost use Rattle.p9_note.specs.ProcNotes.{no_notes, with_room, is_done, if_done, after_notify, after_post, delivered, after_delivery, is_pending, cleared};
 
@@ -117,6 +118,13 @@ impl Inbox {
                 None => Delivered::Died(note),
             },
         }
+    }
+
+    /// The oldest pending note. `None` exactly where no note is pending.
+    pub fn oldest(&self) -> Option<&Msg>
+        ensures { option_copied result ≡ slice_get self.now.pending 0 }
+    {
+        self.pending.front()
     }
 
     /// Whether a note is pending.
