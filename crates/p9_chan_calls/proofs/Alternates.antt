@@ -184,7 +184,7 @@ module _ (setup : Setup) (first : Schedule) (old new : Exchange) (before after :
       let calls = waits_calls own me a s.waits e once stand in
       let after_waits = waits_by own me s.waits in
       let h = held_stays setup.places first s after_waits (locks_by_calls after_waits s.waits calls) p.threads in
-      let start : SchedFor setup.places first middle = record { threads = h.threads; lines = h.lines; procs = h.procs; opened = h.opened; count = h.count; held = record { held = h.held.held } } in
+      let start : SchedFor setup.places first middle = record { threads = h.threads; lines = h.lines; words = h.words; opened = h.opened; count = h.count; held = record { held = h.held.held } } in
       let comes = comes_to once in
       let w = subst (λ (x : Option Wake). Tracks (all_readied (pair_in x)) first second) k.wakes wakes in
       let l = subst (λ (x : Offer). Tracks (told t x) second third) k.tells tells in

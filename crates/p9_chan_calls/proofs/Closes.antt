@@ -120,7 +120,7 @@ module _ (setup : Setup) (at : ℕ) (sched : Schedule) (old : Exchange) (generat
       let left = all_left ws s.waits in
       let calls = calls_left ws s.waits all_wait_in in
       let k = held_stays setup.places sched s left (locks_by_calls left s.waits calls) p.threads in
-      let start : SchedFor setup.places sched closed_state = record { threads = k.threads; lines = k.lines; procs = k.procs; opened = k.opened; count = k.count; held = record { held = k.held.held } } in
+      let start : SchedFor setup.places sched closed_state = record { threads = k.threads; lines = k.lines; words = k.words; opened = k.opened; count = k.count; held = record { held = k.held.held } } in
       let is : (close_channel c s).state ≡ n = woken_readied ws (record s { chans = changed closed_chan s.chans (c - 1) }) all_wait_in in
       record {
         reply_is = refl;

@@ -4,7 +4,7 @@ use Rattle.std.specs.Prelude.{◌==◌, is_none}
 use Rattle.std.specs.List.{filter, list_any}
 use Rattle.p9_word.specs.declared.answer.Answer.{Answer}
 use Rattle.p9_word.specs.declared.request.Request.{Request}
-use Rattle.p9_word.specs.declared.request.Request.TheVariants.{Thread as ThreadRequest, Chan as ChanRequest, Lock as LockRequest, Io as IoRequest}
+use Rattle.p9_word.specs.declared.request.Request.TheVariants.{Thread as ThreadRequest, Signal as SignalRequest, Chan as ChanRequest, Lock as LockRequest, Io as IoRequest}
 use Rattle.p9_manual.specs.declared.locks.LockWait.{LockWait}
 use Rattle.p9_manual.specs.declared.locks.LockWaiter.{LockWaiter}
 use Rattle.p9_manual.specs.declared.state.Place.TheVariants.{Ready}
@@ -27,6 +27,7 @@ use Rattle.p9_chan_calls.proofs.Parties.{is_tid}
 alt_at_none : (q : Request) → is_none (alternation_of q) ≡ false → lock_wait_of q ≡ None
 alt_at_none (ChanRequest r) h = refl
 alt_at_none (ThreadRequest r) h = absurd (cc h)
+alt_at_none (SignalRequest r) h = absurd (cc h)
 alt_at_none (LockRequest r) h = absurd (cc h)
 alt_at_none (IoRequest r) h = absurd (cc h)
 
@@ -53,7 +54,7 @@ pub held_stays : (places : ℕ) (sched : Schedule) (s : State) (ws : List Waiter
 held_stays places sched s ws e h = record {
   threads = h.threads;
   lines = h.lines;
-  procs = h.procs;
+  words = h.words;
   opened = h.opened;
   count = h.count;
   held = record { held = λ p from to. h.held.held p from to ∙ sym (ap (λ (ls : List LockWaiter). list_any (holds_in s.threads p) ls) e) };

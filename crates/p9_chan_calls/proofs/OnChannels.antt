@@ -34,7 +34,7 @@ pub serves_chans : (a : Answer) (chans : List Channel) (setup : Setup) (sched : 
 serves_chans a chans setup sched old new generator s o e w c p = rw e (record {
   reply_is = refl;
   parts = record {
-    threads = record { threads = p.threads.threads; lines = p.threads.lines; procs = p.threads.procs; opened = p.threads.opened; count = p.threads.count; held = record { held = p.threads.held.held } };
+    threads = record { threads = p.threads.threads; lines = p.threads.lines; words = p.threads.words; opened = p.threads.opened; count = p.threads.count; held = record { held = p.threads.held.held } };
     channels = record { waits = w ∙ p.channels.waits; chans = c };
     drawn = p.drawn;
   };

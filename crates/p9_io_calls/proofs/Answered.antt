@@ -31,7 +31,7 @@ use Rattle.p9_io_calls.proofs.Calling.{StaysWithout, parties_more, caller_in_cal
 
 -- the threads stand for those of a state with other ioprocs
 pub sched_io : (places : ℕ) (sched : Schedule) (s : State) (ios : List Ioproc) → SchedFor places sched s → SchedFor places sched (record s { ioprocs = ios })
-sched_io places sched s ios h = record { threads = h.threads; lines = h.lines; procs = h.procs; opened = h.opened; count = h.count; held = record { held = h.held.held } }
+sched_io places sched s ios h = record { threads = h.threads; lines = h.lines; words = h.words; opened = h.opened; count = h.count; held = record { held = h.held.held } }
 
 serves_by : (setup : Setup) (s : State) (o p : Outcome) (reply : Reply) (sched : Schedule) (desks : Desks) → o ≡ p → Serves setup s p reply sched desks → Serves setup s o reply sched desks
 serves_by setup s o p reply sched desks e h = subst (λ (x : Outcome). Serves setup s x reply sched desks) (sym e) h

@@ -23,7 +23,7 @@ pub held_stays : (places : ℕ) (sched : Schedule) (s : State) (ws : List Waiter
 held_stays places sched s ws e h = record {
   threads = h.threads;
   lines = h.lines;
-  procs = h.procs;
+  words = h.words;
   opened = h.opened;
   count = h.count;
   held = record { held = λ p from to. h.held.held p from to ∙ sym (ap (λ (ls : List LockWaiter). list_any (holds_in s.threads p) ls) e) };

@@ -3,7 +3,7 @@ use Rattle.std.proofs.Common.{◌≡◌, ◌≢◌, ℕ, zero, suc, ◌+◌, ◌
 use Rattle.std.specs.Prelude.{◌==◌, if◌then◌else◌}
 use Rattle.std.specs.List.{filter}
 use Rattle.p9_word.specs.declared.request.Request.{Request}
-use Rattle.p9_word.specs.declared.request.Request.TheVariants.{Thread as ThreadRequest, Chan as ChanRequest, Lock as LockRequest, Io as IoRequest}
+use Rattle.p9_word.specs.declared.request.Request.TheVariants.{Thread as ThreadRequest, Signal as SignalRequest, Chan as ChanRequest, Lock as LockRequest, Io as IoRequest}
 use Rattle.p9_word.specs.declared.request.IoReq.TheVariants.{IoRun}
 use Rattle.p9_word.specs.declared.io_call.IoCall.{IoCall}
 use Rattle.p9_word.specs.declared.setup.Setup.{Setup}
@@ -105,6 +105,7 @@ first_in_call : (k u at : ℕ) (q : Request) (ws : List Waiter) (t : ℕ) (call 
 first_in_call k u at (ChanRequest r) ws t call e none = let n = calls_counted k t call ws e in absurd (omega arith)
 first_in_call k u at (LockRequest r) ws t call e none = let n = calls_counted k t call ws e in absurd (omega arith)
 first_in_call k u at (ThreadRequest r) ws t call e none = record { alt = refl; lock = refl }
+first_in_call k u at (SignalRequest r) ws t call e none = record { alt = refl; lock = refl }
 first_in_call k u at (IoRequest r) ws t call e none = record { alt = refl; lock = refl }
 
 -- where another thread's wait comes first, the call is behind it

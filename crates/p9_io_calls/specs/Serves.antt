@@ -5,7 +5,7 @@ use Rattle.p9_word.specs.declared.answer.Answer.TheVariants.{Io as IoAnswered}
 use Rattle.p9_word.specs.declared.answer.IoAnswer.{IoAnswer}
 use Rattle.p9_word.specs.declared.setup.Setup.{Setup}
 use Rattle.p9_word.specs.declared.trail.Reply.{Reply}
-use Rattle.p9_word.specs.declared.trail.Reply.TheVariants.{Now, Waits, Ended, Begin, Turn, Idle, Over, Stuck, Stray, Took, Noted}
+use Rattle.p9_word.specs.declared.trail.Reply.TheVariants.{Now, Waits, Ended, Begin, Turn, Caught, Died, Idle, Over, Stuck, Stray, Took, Noted}
 use Rattle.p9_manual.specs.declared.state.Thread.{Thread}
 use Rattle.p9_manual.specs.LockWaits.{lock_waiters}
 use Rattle.p9_manual.specs.Offers.{parties}
@@ -54,6 +54,8 @@ rooms_after k Waits rooms = rooms
 rooms_after k Ended rooms = rooms
 rooms_after k (Begin t program arg) rooms = rooms
 rooms_after k (Turn t a) rooms = rooms
+rooms_after k (Caught id) rooms = rooms
+rooms_after k (Died note) rooms = rooms
 rooms_after k Idle rooms = rooms
 rooms_after k Over rooms = rooms
 rooms_after k Stuck rooms = rooms

@@ -1,26 +1,22 @@
 -- What stays of the threads, the waits in alts and the procs that are held, where threads wait at locks and are woken.
-use Rattle.std.proofs.Common.{◌≡◌, ℕ, ◌+◌, ◌≤◌, Bool, true, false, not, cond, ◌&&◌, ◌||◌, eqb, List, [], ◌∷◌, ◌++◌, Option, Some, None, refl, ap, sym, subst, ◌∙◌, arith, append-nil}
+use Rattle.std.proofs.Common.{◌≡◌, ℕ, ◌+◌, ◌≤◌, Bool, true, false, not, cond, ◌&&◌, ◌||◌, eqb, List, [], ◌∷◌, ◌++◌, Option, Some, None, refl, ap, sym, subst, ◌∙◌, map, arith, append-nil}
 use Rattle.std.specs.List.{filter, list_any}
 use Rattle.std.proofs.lemmas.List.Elements.{filter-append}
 use Rattle.std.proofs.lemmas.List.Concat.{flat_map-append}
-use Rattle.p9_word.specs.declared.answer.Answer.{Answer}
 use Rattle.p9_word.specs.declared.request.LockReq.{LockReq}
 use Rattle.p9_word.specs.declared.request.Request.{Request}
 use Rattle.p9_word.specs.declared.request.Request.TheVariants.{Chan as ChanRequest, Lock as LockRequest}
 use Rattle.p9_manual.specs.declared.locks.LockWait.{LockWait}
 use Rattle.p9_manual.specs.declared.locks.LockWaiter.{LockWaiter}
-use Rattle.p9_manual.specs.declared.state.Place.TheVariants.{Ready}
 use Rattle.p9_manual.specs.declared.state.Party.{Party}
-use Rattle.p9_manual.specs.declared.state.Thread.{Thread}
 use Rattle.p9_manual.specs.declared.state.Waiter.{Waiter}
-use Rattle.p9_manual.specs.Held.{holds_in, is_held}
+use Rattle.p9_manual.specs.Held.{is_held}
 use Rattle.p9_manual.specs.Holds.{Holds}
 use Rattle.p9_manual.specs.LockCalls.{with_holds}
 use Rattle.p9_manual.specs.LockWaits.{holds_proc, is_holding, lock_wait_of, lock_waiter, lock_waiter_of, lock_waiters}
 use Rattle.p9_manual.specs.Offers.{Alternation, alternation_of, party_with, party_of, parties}
-use Rattle.p9_manual.specs.Places.{is_of}
 use Rattle.p9_manual.specs.Standing.{times}
-use Rattle.p9_manual.specs.State.{State, by_id, placed, readied, wake, waits_without}
+use Rattle.p9_manual.specs.State.{State, Proc, waits_without}
 use Rattle.p9_sched.specs.Schedule.{Schedule}
 use Rattle.p9_sched.specs.Stands.{SchedFor, AreLines}
 use Rattle.p9_lock_calls.proofs.Grants.{is_tid, waiters_without, count_append, none_out}
@@ -31,7 +27,7 @@ sched_same places sched s n threads line procs opened held k =
     record {
       threads = threads ∙ k.threads;
       lines = subst (AreLines sched) (sym line) k.lines;
-      procs = procs ∙ k.procs;
+      words = ap (map (λ (p : Proc). p.word)) procs ∙ k.words;
       opened = opened ∙ k.opened;
       count = k.count;
       held = record { held = λ p a b. k.held.held p a b ∙ sym (held p) };
@@ -39,27 +35,6 @@ sched_same places sched s n threads line procs opened held k =
 
 pub sched_holds : (places : ℕ) (sched : Schedule) (h : Holds) (s : State) → SchedFor places sched s → SchedFor places sched (with_holds h s)
 sched_holds places sched h s k = sched_same places sched s (with_holds h s) refl refl refl refl (λ p. refl) k
-
-any_step : (b h i d : Bool) (t p : ℕ) (threads : List Thread) (w : LockWaiter) (fs ws : List LockWaiter) → holds_proc w.what ≡ h → is_of p (by_id threads w.tid) ≡ i → ((b && h) || d) ≡ false → (d ≡ false → list_any (holds_in threads p) fs ≡ list_any (holds_in threads p) ws) → list_any (holds_in threads p) (cond (not b) (w ∷ fs) fs) ≡ list_any (holds_in threads p) (w ∷ ws)
-any_step true true i d t p threads w fs ws e f g k = cc
-any_step true false i d t p threads w fs ws e f g k = rw e (k g)
-any_step false h i d t p threads w fs ws e f g k = ap (λ (c : Bool). holds_in threads p w || c) (k g)
-
--- a proc is held or not as before, where a thread waits no more that held none
-any_without : (t p : ℕ) (threads : List Thread) → (ws : List LockWaiter) → is_holding t ws ≡ false → list_any (holds_in threads p) (filter (λ w. not (is_tid t w)) ws) ≡ list_any (holds_in threads p) ws
-any_without t p threads [] h = refl
-any_without t p threads (w ∷ ws) h =
-    any_step (eqb w.tid t) (holds_proc w.what) (is_of p (by_id threads w.tid)) (is_holding t ws) t p threads w (filter (λ x. not (is_tid t x)) ws) ws refl refl h (any_without t p threads ws)
-
--- one that holds no proc is woken as one that is ready
-woken_beside : (t : ℕ) (a : Answer) (s : State) → is_holding t (lock_waiters s.waits) ≡ false → wake t a s ≡ record (readied t a s) { waits = waits_without t s.waits }
-woken_beside t a s h = rw h refl
-
-pub sched_woken : (places : ℕ) (sched : Schedule) (t : ℕ) (a : Answer) (s : State) → is_holding t (lock_waiters s.waits) ≡ false → SchedFor places sched (readied t a s) → SchedFor places sched (wake t a s)
-sched_woken places sched t a s h k =
-    let n : State = record (readied t a s) { waits = waits_without t s.waits } in
-    let held : (p : ℕ) → is_held p n ≡ is_held p (readied t a s) = λ p. ap (list_any (holds_in (placed t (Ready a) s.threads) p)) (waiters_without t s.waits) ∙ any_without t p (placed t (Ready a) s.threads) (lock_waiters s.waits) h in
-    subst (SchedFor places sched) (sym (woken_beside t a s h)) (sched_same places sched (readied t a s) n refl refl refl refl held k)
 
 fewer_step : (f : LockWaiter → Bool) (b : Bool) (w : LockWaiter) (fs ws : List LockWaiter) → (f w || list_any f ws) ≡ false → (list_any f ws ≡ false → list_any f fs ≡ false) → list_any f (cond b (w ∷ fs) fs) ≡ false
 fewer_step f b w fs ws h k = by_two (f w) (list_any f ws) refl refl h b

@@ -7,15 +7,15 @@ use Rattle.p9_manual.specs.declared.state.Place.TheVariants as stand
 use Rattle.p9_manual.specs.declared.state.Thread.{Thread}
 use Rattle.p9_manual.specs.LockCalls.{all_granted}
 use Rattle.p9_manual.specs.LockWaits.{is_holding, lock_waiters}
-use Rattle.p9_manual.specs.State.{State, by_id, placed, at_place, readied, wake}
+use Rattle.p9_manual.specs.State.{State, by_id, placed, at_place, wake}
 use Rattle.p9_manual.specs.Standing.{times, times_in_waits, place_in, place_of as stand_of}
 use Rattle.p9_sched.specs.Schedule.{Schedule, readied as sched_readied}
 use Rattle.p9_sched.specs.Turns.{place_of}
 use Rattle.p9_sched.specs.declared.turns.Place.TheVariants as place
-use Rattle.p9_sched.specs.Stands.{SchedFor, Tracks}
+use Rattle.p9_sched.specs.Stands.{SchedFor, TracksBeside}
 use Rattle.p9_lock_calls.specs.Granted.{AreWaiting, AreBeside, StillRuns}
 use Rattle.p9_lock_calls.proofs.Others.{CasesEq, Same, Other, cases_eq, eq_same, by_id_other}
-use Rattle.p9_lock_calls.proofs.Standing.{sched_woken, still_beside}
+use Rattle.p9_lock_calls.proofs.Standing.{still_beside}
 
 -- one more is woken
 granted_push : (ts : List ℕ) (t : ℕ) (s : State) → all_granted (ts ++ t ∷ []) s ≡ wake t Done (all_granted ts s)
@@ -110,7 +110,7 @@ pub next_waits : (before now : Schedule) (ts : List ℕ) (i x : ℕ) → i < len
 next_waits before now ts i x lt it k = first_waits now.threads x (drop (i + 1) ts) (subst (λ (us : List ℕ). AreWaiting now.threads us) (rest ts i x lt it) k.waiting)
 
 -- one more is woken
-pub one_more : (before now new : Schedule) (ts : List ℕ) (i x : ℕ) → i < length ts → get_or ts i x ≡ x → new ≡ sched_readied x Done now → Tracks (readied x Done) now new → AreWoken before now ts i → AreWoken before new ts (i + 1)
+pub one_more : (before now new : Schedule) (ts : List ℕ) (i x : ℕ) → i < length ts → get_or ts i x ≡ x → new ≡ sched_readied x Done now → TracksBeside x (wake x Done) now new → AreWoken before now ts i → AreWoken before new ts (i + 1)
 one_more before now new ts i x lt it ready tracks k =
     let threads : new.threads ≡ placed x (stand.Ready Done) now.threads = ap (λ (b : Schedule). b.threads) ready in
     let waits : AreWaiting now.threads (x ∷ drop (i + 1) ts) = subst (λ (us : List ℕ). AreWaiting now.threads us) (rest ts i x lt it) k.waiting in
@@ -120,7 +120,7 @@ one_more before now new ts i x lt it ready tracks k =
           let n : State = all_granted (take i ts) s in
           let free : is_holding x (lock_waiters n.waits) ≡ false = beside_after x (take i ts) s (beside x (stands_there ts i x lt it)) in
           let again : wake x Done n ≡ all_granted (take (i + 1) ts) s = sym (ap (λ (us : List ℕ). all_granted us s) (first ts i x lt it) ∙ granted_push (take i ts) x s) in
-          subst (λ (m : State). SchedFor places new m) again (sched_woken places new x Done n free (tracks places n (k.stands places s beside h)));
+          subst (λ (m : State). SchedFor places new m) again (tracks places n free (k.stands places s beside h));
       runs = λ t r. still_runs now.threads new.threads t x (stand.Ready Done) threads (k.runs t r) (next_waits before now ts i x lt it k);
     }
 

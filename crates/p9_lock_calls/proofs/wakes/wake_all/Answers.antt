@@ -10,7 +10,10 @@ ready-requires c = inr (next_waits c.args.sched.now c.loop-u.sched c.args.woken.
 
 pub loop-u-preserved : goal.loop-u-preserved
 loop-u-preserved c =
-    one_more c.args.sched.now c.loop-u.sched c.ready.new.self c.args.woken.now c.loop-u.u-index (get_or c.args.woken.now c.loop-u.u-index 0) (omega arith) (get_same c.args.woken.now c.loop-u.u-index 0 (omega arith)) c.ready.ensures.ready c.ready.ensures.stands c.loop-u.invariant
+    let x = get_or c.args.woken.now c.loop-u.u-index 0 in
+    let same = get_same c.args.woken.now c.loop-u.u-index 0 (omega arith) in
+    let waits = next_waits c.args.sched.now c.loop-u.sched c.args.woken.now c.loop-u.u-index x (omega arith) same c.loop-u.invariant in
+    one_more c.args.sched.now c.loop-u.sched c.ready.new.self c.args.woken.now c.loop-u.u-index x (omega arith) same c.ready.ensures.ready (c.ready.ensures.wakes waits) c.loop-u.invariant
 
 pub returns-clause-woken : goal.returns-clause-woken
 returns-clause-woken c = λ places s beside h. subst (λ (ts : List ℕ). SchedFor places c.loop-u.sched (all_granted ts s)) (take_all c.loop-u.u-index c.args.woken.now (omega arith)) (c.loop-u.invariant.stands places s beside h)
