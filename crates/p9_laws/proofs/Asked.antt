@@ -1,5 +1,5 @@
 -- What a request on threads does to a state. A new request is a case here, and in no law, unless it does what none of them does.
-use Rattle.std.proofs.Common.{◌≡◌, ℕ, ◌+◌, ◌<◌, Bool, true, false, not, cond, ◌||◌, eqb, ltb, List, length, Option, Some, None, refl, arith}
+use Rattle.std.proofs.Common.{◌≡◌, ℕ, ◌+◌, ◌-◌, ◌<◌, Bool, true, false, not, cond, ◌||◌, eqb, ltb, List, length, Option, Some, None, refl, arith}
 use Rattle.std.proofs.lemmas.Bool.{or_parts, ltb-true, ltb-false, eqb-false}
 use Rattle.p9_word.specs.Setup.{IsBetween}
 use Rattle.p9_word.specs.declared.answer.Answer.{Answer}
@@ -14,7 +14,8 @@ use Rattle.p9_manual.specs.State.{State, Outcome, Proc, by_id, replied, now, don
 use Rattle.p9_manual.specs.Programs.{ends_all}
 use Rattle.p9_manual.specs.Create.{with_thread, is_full, is_no_program, create_thread, create_proc}
 use Rattle.p9_manual.specs.Ends.{ended, all_ended}
-use Rattle.p9_manual.specs.Threads.{asked, asked_by, thread_call, with_changed, in_group, with_name, with_word, is_no_name, set_name, pid_of, word_of}
+use Rattle.p9_manual.specs.Threads.{asked, asked_by, thread_call, with_changed, in_group, with_name, with_word, is_no_name, set_name, with_proc_word, pid_of, word_of}
+use Rattle.p9_laws.proofs.Pending.{KeepNotes, changed_notes}
 use Rattle.p9_laws.specs.Refusals.{is_refusal}
 
 -- a change of a thread that leaves all that the laws look at
@@ -32,13 +33,13 @@ abbrev pub with_proc : ℕ → ℕ → ℕ → State → State
 with_proc program arg group s = with_thread (s.opened + 1) program arg group (record s { opened = s.opened + 1 })
 
 -- all that a request of thread t that is no alt, and on no lock and no ioproc, may come to: an answer that changes nothing, a
--- change of the caller or of what no law looks at, the procs; a new thread in the caller's proc or in the next one, a turn
+-- change of the caller or of what no law looks at, the procs but for their notes; a new thread in the caller's proc or in the next one, a turn
 -- for the others, and the end of the caller or of all
 pub data Does (setup : Setup) (t : ℕ) (s : State) : Outcome → Type 0 where
   Answers : (a : Answer) → Does setup t s (now a s)
   ChangesCaller : (f : Thread → Thread) (caller : Thread) (a : Answer) → by_id s.threads t ≡ Some caller → LeavesStanding f → Grants a
       → Does setup t s (now a (with_changed f t s))
-  ChangesAside : (procs : List Proc) (a : Answer) → Grants a → Does setup t s (now a (record s { procs = procs }))
+  ChangesAside : (procs : List Proc) (a : Answer) → Grants a → KeepNotes s.procs procs → Does setup t s (now a (record s { procs = procs }))
   MakesThread : (program arg : ℕ) (caller : Thread) → by_id s.threads t ≡ Some caller → IsBetween 1 setup.programs program
       → Does setup t s (now (Number (length s.threads + 1)) (with_thread caller.proc_no program arg caller.group s))
   MakesProc : (program arg : ℕ) (caller : Thread) → by_id s.threads t ≡ Some caller → IsBetween 1 setup.programs program → s.opened < setup.places
@@ -106,7 +107,7 @@ asked_does setup t ask.ThreadWord s x at = Answers _
 asked_does setup t (ask.ThreadSetWord word) s x at =
     ChangesCaller (with_word word) x Done at (record { place = λ y. refl; proc_no = λ y. refl; program = λ y. refl }) refl
 asked_does setup t ask.ProcWord s x at = word_does setup t s (by_id s.procs x.proc_no)
-asked_does setup t (ask.ProcSetWord word) s x at = ChangesAside _ Done refl
+asked_does setup t (ask.ProcSetWord word) s x at = ChangesAside _ Done refl (changed_notes (with_proc_word word) (λ proc. refl) s.procs (x.proc_no - 1))
 
 asked_by_does : (setup : Setup) (t : ℕ) (r : ThreadReq) (s : State) (o : Option Thread) → by_id s.threads t ≡ o → Does setup t s (asked_by setup t r s o)
 asked_by_does setup t r s None at = Answers _

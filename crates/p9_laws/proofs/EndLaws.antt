@@ -1,5 +1,5 @@
 -- What tells the end of a run: a run whose turns are over ends with Stuck, or none of its threads lives.
-use Rattle.std.proofs.Common.{◌≡◌, ◌⊎◌, ℕ, ◌-◌, ◌≤◌, Bool, true, false, not, cond, ◌&&◌, ◌||◌, eqb, leb, List, [], ◌∷◌, length, Option, Some, None, refl, inl, inr, arith}
+use Rattle.std.proofs.Common.{◌≡◌, ◌⊎◌, ℕ, ◌-◌, ◌≤◌, Bool, true, false, not, cond, ◌&&◌, ◌||◌, eqb, leb, List, [], ◌∷◌, length, Option, Some, None, refl, ap, inl, inr, arith}
 use Rattle.std.specs.Prelude.{slice_get}
 use Rattle.std.specs.List.{list_any, fold}
 use Rattle.std.proofs.lemmas.Bool.{le-leb, or_parts}
@@ -18,34 +18,26 @@ use Rattle.p9_manual.specs.declared.state.Thread.{Thread}
 use Rattle.p9_manual.specs.declared.state.Ioproc.{Ioproc}
 use Rattle.p9_manual.specs.declared.state.Ioproc.TheVariants.{Unmade, Idle, Posted, Begun, Closed}
 use Rattle.p9_manual.specs.State.{State, Outcome, by_id, same}
+use Rattle.p9_manual.specs.NoteCalls.{met_by, next_note, with_pending, with_proc}
+use Rattle.p9_manual.specs.Notes.{Delivery}
 use Rattle.p9_manual.specs.Places.{lives, lives_in, runs, runs_in, runs_there, has_call, is_ended, is_running}
-use Rattle.p9_manual.specs.Stuck.{can_run, is_stuck}
+use Rattle.p9_manual.specs.Stuck.{is_stuck}
 use Rattle.p9_manual.specs.Ioprocs.{take_call, did_call, io_event}
-use Rattle.p9_manual.specs.Next.{next_event, first_ready, next_of, turn, is_place, is_over}
-use Rattle.p9_manual.specs.Step.{step, outcome, called, served, makes_entry, counted}
+use Rattle.p9_manual.specs.Next.{next_event, note_first, first_ready, next_of, turn, is_place, is_over}
+use Rattle.p9_manual.specs.Step.{step, outcome, called, makes_entry, counted}
 use Rattle.p9_manual.specs.History.{IsLegal, IsLegalFrom, after_entry, begin_state, state_after}
 use Rattle.p9_laws.specs.RunReplies.{reply_at}
 use Rattle.p9_laws.specs.Ending.{is_stuck_reply, stuck_at, HasEnded, EndsOver}
 use Rattle.p9_laws.proofs.Tallies.{tally, tally-at, tally_none, none_tally, none_first}
-use Rattle.p9_laws.proofs.Standing.{place_runs, get_by_id}
+use Rattle.p9_laws.proofs.Standing.{get_by_id}
 use Rattle.p9_laws.proofs.RunMoves.{IsUpright, same_id}
-use Rattle.p9_laws.proofs.RunAsked.{served_called}
+use Rattle.p9_laws.proofs.RunAsked.{running_called, elsewhere_called}
 use Rattle.p9_laws.proofs.RunTurns.{io_served}
 use Rattle.p9_laws.proofs.RunSteps.{IsStepped, step_stepped}
 use Rattle.p9_laws.proofs.RunMembers.{is_outside, proc_at}
 use Rattle.p9_laws.proofs.RunHistory.{kept_after}
 use Rattle.p9_laws.proofs.RunLaws.{over_cause, lives_shut}
-
--- in a state that is stuck no thread runs, and no ioproc has a call
-stuck_parts : (a b c d : Bool) → (a && not b && not c && not d) ≡ true → (b ≡ false) × (d ≡ false)
-stuck_parts true false false false h = (refl, refl)
-stuck_parts a b c d h = cc
-
-none_running : (s : State) → is_stuck s ≡ true → list_any runs s.threads ≡ false
-none_running s stuck = (stuck_parts (list_any lives s.threads) (list_any runs s.threads) (list_any (can_run s) s.threads) (list_any has_call s.ioprocs) stuck).0
-
-none_called : (s : State) → is_stuck s ≡ true → list_any has_call s.ioprocs ≡ false
-none_called s stuck = (stuck_parts (list_any lives s.threads) (list_any runs s.threads) (list_any (can_run s) s.threads) (list_any has_call s.ioprocs) stuck).1
+use Rattle.p9_laws.proofs.StuckLaws.{still}
 
 and_not : (a b : Bool) → (b ≡ true → ⊥) → (a && b) ≡ false
 and_not true true h = absurd (h refl)
@@ -66,10 +58,9 @@ if_silent true o p f g = f
 if_silent false o p f g = g
 
 called_silent : (setup : Setup) (p t : ℕ) (r : Request) (s : State) → is_stuck s ≡ true → IsSilent (called setup p t r s)
-unfolding called
 called_silent setup p t r s stuck =
-    let none = none_there p t s.threads (by_id s.threads t) refl (tally_none runs s.threads (none_running s stuck)) in
-    rw none refl
+    let none = none_there p t s.threads (by_id s.threads t) refl (tally_none runs s.threads (still s stuck).runs) in
+    rw (elsewhere_called setup p t r s none) refl
 
 over_at : (p : ℕ) (s : State) → s.over ≡ true → is_over p s ≡ true
 over_at p s over = rw over refl
@@ -103,7 +94,7 @@ outcome_silent setup (Proc p) IoTake s over stuck = refl
 outcome_silent setup (Proc p) (IoDid effect) s over stuck = refl
 outcome_silent setup (IoSeat k) IoTake s over stuck = take_silent k s (by_id s.ioprocs k) over
 outcome_silent setup (IoSeat k) (IoDid effect) s over stuck =
-    did_silent k effect s (by_id s.ioprocs k) refl (tally_none has_call s.ioprocs (none_called s stuck))
+    did_silent k effect s (by_id s.ioprocs k) refl (tally_none has_call s.ioprocs (still s stuck).calls)
 outcome_silent setup (IoSeat k) (Call t r) s over stuck = refl
 outcome_silent setup (IoSeat k) Next s over stuck = refl
 
@@ -123,12 +114,12 @@ if_over : (b : Bool) (o p : Outcome) → (b ≡ true → IsEndRight o) → (b �
 if_over true o p f g = f refl
 if_over false o p f g = g refl
 
-called_over : (setup : Setup) (b : Bool) (p t : ℕ) (r : Request) (s : State) → runs_there p (by_id s.threads t) ≡ b → IsUpright s → s.over ≡ false → IsEndRight (cond b (served setup t r s) (same Stray s))
-called_over setup true p t r s e upright going = elim ((served_called setup t r s upright (place_runs p (by_id s.threads t) e)).ending) [
+called_over : (setup : Setup) (b : Bool) (p t : ℕ) (r : Request) (s : State) → runs_there p (by_id s.threads t) ≡ b → IsUpright s → s.over ≡ false → IsEndRight (called setup p t r s)
+called_over setup true p t r s e upright going = elim ((running_called setup p t r s upright e).ending) [
   | inl same ↦ goes_on s _ going same
   | inr none ↦ record { cause = λ h. inr none }
 ]
-called_over setup false p t r s e upright going = goes_on s _ going refl
+called_over setup false p t r s e upright going = goes_on s _ going (ap (λ o. o.state.over) (elsewhere_called setup p t r s e))
 
 turn_over : (t : ℕ) (s : State) (o : Option (ℕ × ℕ × Place)) → s.over ≡ false → IsEndRight (turn t s o)
 turn_over t s None going = goes_on s _ going refl
@@ -138,16 +129,24 @@ next_of_over : (s : State) (o : Option (ℕ × List ℕ)) → s.over ≡ false �
 next_of_over s None going = if_over (is_stuck s) _ _ (λ e. record { cause = λ h. inl (e, refl) }) (λ e. goes_on s (same IdleReply s) going refl)
 next_of_over s (Some found) going = turn_over found.0 (record s { line = found.1 }) _ going
 
+met_over : (p : ℕ) (note : List ℕ) (pending : List (List ℕ)) (o : Option ℕ) (s : State) → s.over ≡ false → IsEndRight (met_by p note o (with_proc (with_pending pending) p s))
+met_over p note pending (Some id) s going = goes_on s _ going refl
+met_over p note pending None s going = goes_on s _ going refl
+
+note_over : (p : ℕ) (s : State) (o : Option Delivery) → s.over ≡ false → IsEndRight (note_first p s o)
+note_over p s None going = next_of_over s (first_ready p s) going
+note_over p s (Some d) going = met_over p d.note d.pending d.caught_by s going
+
 next_over : (setup : Setup) (p : ℕ) (s : State) → s.over ≡ false → IsEndRight (next_event setup p s)
 unfolding next_event
 next_over setup p s going =
     if_over (not (is_place setup p)) _ _ (λ e. goes_on s (same Stray s) going refl)
     (λ e. if_over (is_over p s) _ _ (λ e. goes_on s (same Over s) going refl)
     (λ e. if_over (list_any (runs_in p) s.threads) _ _ (λ e. goes_on s (same Stray s) going refl)
-    (λ e. next_of_over s (first_ready p s) going)))
+    (λ e. note_over p s (next_note p s) going)))
 
 outcome_over : (setup : Setup) (seat : Seat) (event : Event) (s : State) → IsUpright s → s.over ≡ false → IsEndRight (outcome setup seat event s)
-unfolding outcome called
+unfolding outcome
 outcome_over setup (Proc p) (Call t r) s upright going = called_over setup _ p t r s refl upright going
 outcome_over setup (Proc p) Next s upright going = next_over setup p s going
 outcome_over setup (Proc p) IoTake s upright going = goes_on s _ going refl

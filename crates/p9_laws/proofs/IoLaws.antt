@@ -13,7 +13,7 @@ use Rattle.p9_word.specs.declared.trail.Entry.{Entry}
 use Rattle.p9_word.specs.declared.trail.Event.{Event}
 use Rattle.p9_word.specs.declared.trail.Event.TheVariants.{Call, Next, IoTake, IoDid}
 use Rattle.p9_word.specs.declared.trail.Reply.{Reply}
-use Rattle.p9_word.specs.declared.trail.Reply.TheVariants.{Took, Noted, Over, Stray}
+use Rattle.p9_word.specs.declared.trail.Reply.TheVariants.{Took, Noted, Over}
 use Rattle.p9_word.specs.declared.trail.Seat.{Seat}
 use Rattle.p9_word.specs.declared.trail.Seat.TheVariants.{Proc, Io}
 use Rattle.p9_manual.specs.declared.state.Ioproc.{Ioproc}
@@ -22,14 +22,14 @@ use Rattle.p9_manual.specs.Effects.{fits, Fits, message_length}
 use Rattle.p9_manual.specs.State.{State, Outcome, by_id, same}
 use Rattle.p9_manual.specs.Places.{lives, runs_there}
 use Rattle.p9_manual.specs.Ioprocs.{take_call, did_call, io_event}
-use Rattle.p9_manual.specs.Step.{step, outcome, called, served, makes_entry, counted}
+use Rattle.p9_manual.specs.Step.{step, outcome, called, makes_entry, counted}
 use Rattle.p9_manual.specs.History.{IsLegal, state_after}
 use Rattle.p9_laws.specs.RunReplies.{reply_at, grown}
 use Rattle.p9_laws.specs.IoReplies.{ioproc_after, IsPosted, IsBegun, IsTakeReply, IsDidReply, tells_effect, TakeReplies, DidReplies, TakenBegun, FittingNoted, TakenNoted, BegunStays, IsShortCall, HasShortCalls}
 use Rattle.p9_laws.proofs.Tallies.{tally, tally-at}
-use Rattle.p9_laws.proofs.Standing.{get_by_id, by_id-changed_same, place_runs}
+use Rattle.p9_laws.proofs.Standing.{get_by_id, by_id-changed_same}
 use Rattle.p9_laws.proofs.RunMoves.{IsUpright, is_long}
-use Rattle.p9_laws.proofs.RunAsked.{served_called}
+use Rattle.p9_laws.proofs.RunAsked.{running_called, elsewhere_called}
 use Rattle.p9_laws.proofs.RunTurns.{next_turned, take_begun, did_begun}
 use Rattle.p9_laws.proofs.RunHistory.{kept_after, state_with}
 
@@ -132,14 +132,14 @@ fitting_noted setup H k call effect begun fit = step_noted setup k (state_after 
 pub taken_noted : (setup : Setup) (H : List Entry) → TakenNoted setup H
 taken_noted setup H k call effect took fit = fitting_noted setup (grown setup H (Io k) IoTake) k call effect (taken_begun setup H k call took) fit
 
-called_begun : (setup : Setup) (b : Bool) (p t : ℕ) (r : Request) (s : State) → runs_there p (by_id s.threads t) ≡ b → IsUpright s → (k : ℕ) (call : IoCall) → IsBegun call (by_id s.ioprocs k) → IsBegun call (by_id (cond b (served setup t r s) (same Stray s)).state.ioprocs k)
-called_begun setup true p t r s e upright k call h = (served_called setup t r s upright (place_runs p (by_id s.threads t) e)).begun k call h
-called_begun setup false p t r s e upright k call h = h
+called_begun : (setup : Setup) (b : Bool) (p t : ℕ) (r : Request) (s : State) → runs_there p (by_id s.threads t) ≡ b → IsUpright s → (k : ℕ) (call : IoCall) → IsBegun call (by_id s.ioprocs k) → IsBegun call (by_id (called setup p t r s).state.ioprocs k)
+called_begun setup true p t r s e upright k call h = (running_called setup p t r s upright e).begun k call h
+called_begun setup false p t r s e upright k call h = rw (elsewhere_called setup p t r s e) h
 
 outcome_begun : (setup : Setup) (seat : Seat) (event : Event) (s : State) → IsUpright s → makes_entry (outcome setup seat event s).reply ≡ true → (k : ℕ) (call : IoCall) → tells_effect k seat event ≡ false → IsBegun call (by_id s.ioprocs k) → IsBegun call (by_id (outcome setup seat event s).state.ioprocs k)
-unfolding outcome called io_event
+unfolding outcome io_event
 outcome_begun setup (Proc p) (Call t r) s upright makes k call other h = called_begun setup _ p t r s refl upright k call h
-outcome_begun setup (Proc p) Next s upright makes k call other h = rw ((next_turned setup p s upright makes).ioprocs) h
+outcome_begun setup (Proc p) Next s upright makes k call other h = (next_turned setup p s upright makes).begun k call h
 outcome_begun setup (Proc p) IoTake s upright makes k call other h = h
 outcome_begun setup (Proc p) (IoDid effect) s upright makes k call other h = h
 outcome_begun setup (Io j) IoTake s upright makes k call other h = take_begun j s (by_id s.ioprocs j) refl k call h

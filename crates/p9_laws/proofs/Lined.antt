@@ -15,6 +15,7 @@ use Rattle.p9_laws.proofs.Tallies.{tally, tally_none, none_tally}
 use Rattle.p9_laws.proofs.Standing.{place_in, times_in_line}
 use Rattle.p9_laws.proofs.RunMembers.{proc_at}
 use Rattle.p9_laws.proofs.RunHistory.{kept_after}
+use Rattle.p9_laws.proofs.Sound.Histories.{state_sound}
 use Rattle.p9_laws.proofs.StuckLaws.{stuck_cause, stuck_told}
 use Rattle.p9_laws.proofs.MoveLaws.{unstuck_moves}
 
@@ -37,6 +38,7 @@ lined_after setup H valid legal =
       ready = λ t. ready_in (by_id (state_after setup H).threads t) t (state_after setup H).line (kept.upright.in_line t);
       opened = members.opened;
       procs = λ t thread at. proc_at (state_after setup H).opened (state_after setup H).threads t thread members.procs at;
+      notes = (state_sound setup H valid).notes;
     }
 
 pub stuck_exactly : (setup : Setup) (H : List Entry) → StuckExactly setup H

@@ -22,7 +22,7 @@ use Rattle.p9_manual.specs.Offers.{Alternation, alternation_of, party_with, part
 use Rattle.p9_manual.specs.Places.{is_of}
 use Rattle.p9_manual.specs.Sound.{call_in, call_at, waiting_calls}
 use Rattle.p9_manual.specs.Standing.{StandOnce, times, place_of, place_in, times_in_waits}
-use Rattle.p9_manual.specs.State.{State, by_id, changed, placed, at_place, waits_without}
+use Rattle.p9_manual.specs.State.{State, by_id, changed, placed, at_place}
 use Rattle.p9_laws.proofs.Sound.Counts.{times-append, times_none, found_counts}
 use Rattle.p9_laws.proofs.Sound.Parties.{is_tid}
 use Rattle.p9_laws.proofs.Sound.Places.{by_id-suc, by_id-push_other, by_id-past}
@@ -40,21 +40,20 @@ lock_waiters_push waits w = flat_map-append lock_waiter_of waits (w ∷ []) ∙ 
 pub lock_waiters_other : (waits : List Waiter) (w : Waiter) → lock_waiter_of w ≡ [] → lock_waiters (waits ++ w ∷ []) ≡ lock_waiters waits
 lock_waiters_other waits w none = lock_waiters_push waits w ∙ ap (λ ws. lock_waiters waits ++ ws) none ∙ append-nil (lock_waiters waits)
 
-one_without : (t u : ℕ) (b : Bool) (o : Option (LockWait × ℕ)) → eqb u t ≡ b → filter (λ w. not (is_locker t w)) (lock_waiter u o) ≡ cond b [] (lock_waiter u o)
-one_without t u true None h = refl
-one_without t u false None h = refl
-one_without t u true (Some (what, value)) h = rw h refl
-one_without t u false (Some (what, value)) h = rw h refl
+one_off : (off : ℕ → Bool) (u : ℕ) (b : Bool) (o : Option (LockWait × ℕ)) → off u ≡ b → filter (λ w. not (off w.tid)) (lock_waiter u o) ≡ cond b [] (lock_waiter u o)
+one_off off u true None h = refl
+one_off off u false None h = refl
+one_off off u true (Some (what, value)) h = rw h refl
+one_off off u false (Some (what, value)) h = rw h refl
 
-without_step : (t : ℕ) (b : Bool) (w : Waiter) (fs ws : List Waiter) → eqb w.tid t ≡ b → lock_waiters fs ≡ filter (λ x. not (is_locker t x)) (lock_waiters ws) → lock_waiters (cond (not b) (w ∷ fs) fs) ≡ filter (λ x. not (is_locker t x)) (lock_waiter_of w ++ lock_waiters ws)
-without_step t true w fs ws h e = rw (filter-append (λ x. not (is_locker t x)) (lock_waiter_of w) (lock_waiters ws), one_without t w.tid true (lock_wait_of w.request) h) e
-without_step t false w fs ws h e =
-    rw (filter-append (λ x. not (is_locker t x)) (lock_waiter_of w) (lock_waiters ws), one_without t w.tid false (lock_wait_of w.request) h) (ap (λ xs. lock_waiter_of w ++ xs) e)
+off_step : (off : ℕ → Bool) (b : Bool) (w : Waiter) (fs ws : List Waiter) → off w.tid ≡ b → lock_waiters fs ≡ filter (λ x. not (off x.tid)) (lock_waiters ws) → lock_waiters (cond (not b) (w ∷ fs) fs) ≡ filter (λ x. not (off x.tid)) (lock_waiter_of w ++ lock_waiters ws)
+off_step off true w fs ws h e = rw (filter-append (λ x. not (off x.tid)) (lock_waiter_of w) (lock_waiters ws), one_off off w.tid true (lock_wait_of w.request) h) e
+off_step off false w fs ws h e = rw (filter-append (λ x. not (off x.tid)) (lock_waiter_of w) (lock_waiters ws), one_off off w.tid false (lock_wait_of w.request) h) (ap (λ xs. lock_waiter_of w ++ xs) e)
 
--- without the waits of t there are those of the other threads
-pub lock_waiters_without : (t : ℕ) → (waits : List Waiter) → lock_waiters (waits_without t waits) ≡ filter (λ w. not (is_locker t w)) (lock_waiters waits)
-lock_waiters_without t [] = refl
-lock_waiters_without t (w ∷ ws) = without_step t (eqb w.tid t) w (waits_without t ws) ws refl (lock_waiters_without t ws)
+-- without the waits of some threads there are those of the others
+pub lock_waiters_off : (off : ℕ → Bool) → (waits : List Waiter) → lock_waiters (filter (λ w. not (off w.tid)) waits) ≡ filter (λ w. not (off w.tid)) (lock_waiters waits)
+lock_waiters_off off [] = refl
+lock_waiters_off off (w ∷ ws) = off_step off (off w.tid) w (filter (λ x. not (off x.tid)) ws) ws refl (lock_waiters_off off ws)
 
 one_locker : (t u : ℕ) (o : Option (LockWait × ℕ)) → times (is_locker t) (lock_waiter u o) ≤ cond (eqb u t) 1 0
 one_locker t u None = least (eqb u t)

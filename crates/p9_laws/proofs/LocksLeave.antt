@@ -6,7 +6,7 @@ use Rattle.std.proofs.lemmas.List.Concat.{flat_map-append}
 use Rattle.std.proofs.lemmas.List.Elements.{All-append, All-cons, All-filter, All-head, All-map, All-nil, All-push, All-tail, All-weaker}
 use Rattle.p9_word.specs.declared.request.LockReq.{LockReq}
 use Rattle.p9_word.specs.declared.request.Request.{Request}
-use Rattle.p9_word.specs.declared.request.Request.TheVariants.{Thread as ThreadRequest, Chan as ChanRequest, Lock as LockRequest, Io as IoRequest}
+use Rattle.p9_word.specs.declared.request.Request.TheVariants.{Thread as ThreadRequest, Signal as SignalRequest, Chan as ChanRequest, Lock as LockRequest, Io as IoRequest}
 use Rattle.p9_manual.specs.declared.locks.LockWait.TheVariants as wait
 use Rattle.p9_manual.specs.declared.state.Waiter.{Waiter}
 use Rattle.p9_manual.specs.LockWaits.{lock_wait_of, lock_waiter}
@@ -27,6 +27,7 @@ NoAlts p = (w : Waiter) → p w ≡ true → party_of w ≡ []
 sleeper_no_alt : (r t at : ℕ) (request : Request) → list_any (waits_for (wait.Sleep r)) (lock_waiter t (lock_wait_of request)) ≡ true → party_with t at (alternation_of request) ≡ []
 sleeper_no_alt r t at (LockRequest asked) h = refl
 sleeper_no_alt r t at (ThreadRequest asked) h = cc
+sleeper_no_alt r t at (SignalRequest asked) h = cc
 sleeper_no_alt r t at (ChanRequest asked) h = cc
 sleeper_no_alt r t at (IoRequest asked) h = cc
 

@@ -1,6 +1,6 @@
 -- What can happen in a state that isn't stuck.
-use Rattle.std.proofs.Common.{◌≡◌, ◌≢◌, ℕ, Bool, true, false, not, cond, ◌&&◌, ◌||◌, eqb, leb, List, [], ◌∷◌, Option, Some, None, refl, sym, subst, ◌∙◌, arith, rules, tests}
-use Rattle.std.specs.Prelude.{option_map}
+use Rattle.std.proofs.Common.{◌≡◌, ◌≢◌, ℕ, ◌≤◌, Bool, true, false, not, cond, ◌&&◌, ◌||◌, eqb, leb, List, [], ◌∷◌, Option, Some, None, refl, sym, subst, ◌∙◌, arith, rules, tests}
+use Rattle.std.specs.Prelude.{is_some, option_map}
 use Rattle.std.specs.List.{list_any}
 use Rattle.std.proofs.lemmas.Bool.{and_parts, le-leb, eqb-true}
 use Rattle.p9_word.specs.declared.io_call.IoCall.{IoCall}
@@ -20,14 +20,16 @@ use Rattle.p9_manual.specs.declared.state.Place.TheVariants.{Running, New, Ready
 use Rattle.p9_manual.specs.declared.state.Thread.{Thread}
 use Rattle.p9_manual.specs.declared.state.Ioproc.{Ioproc}
 use Rattle.p9_manual.specs.declared.state.Ioproc.TheVariants.{Unmade, Idle, Posted, Begun, Closed}
-use Rattle.p9_manual.specs.State.{State, by_id, pick, behind}
-use Rattle.p9_manual.specs.Places.{is_of, runs, runs_in, runs_there, lives, lives_in, stands_ready, has_call, is_ready}
+use Rattle.p9_manual.specs.NoteCalls.{has_note, met_by, next_note, note_in, with_pending, with_proc}
+use Rattle.p9_manual.specs.Notes.{Delivery}
+use Rattle.p9_manual.specs.State.{State, Outcome, by_id, pick, behind}
+use Rattle.p9_manual.specs.Places.{is_ended, is_of, runs, runs_in, runs_there, lives, lives_in, stands_ready, has_call, is_ready}
 use Rattle.p9_manual.specs.Held.{is_held}
 use Rattle.p9_manual.specs.Stuck.{can_run}
 use Rattle.p9_manual.specs.Threads.{thread_call, asked}
 use Rattle.p9_manual.specs.Effects.{fits}
 use Rattle.p9_manual.specs.Ioprocs.{io_event}
-use Rattle.p9_manual.specs.Next.{next_event, next_of, turn, turn_reply, started, is_place, is_over}
+use Rattle.p9_manual.specs.Next.{next_event, next_of, note_first, first_ready, turn, turn_reply, started, is_place, is_over}
 use Rattle.p9_manual.specs.Step.{step, outcome, called, served, makes_entry}
 use Rattle.p9_laws.specs.StuckReplies.{CanMove, is_ready_thread, IsLined, UnstuckMoves}
 use Rattle.p9_laws.proofs.FirstReady.{in_proc}
@@ -38,9 +40,14 @@ can_move : (setup : Setup) (s : State) (seat : Seat) (event : Event) (r : Reply)
 can_move setup s seat event r e makes moves =
     record { seat = seat; event = event; makes = rw e makes; moves = rw e moves }
 
+either_ends : (b : Bool) (o p : Outcome) → o.reply ≡ EndedReply → p.reply ≡ EndedReply → (cond b o p).reply ≡ EndedReply
+either_ends true o p f g = f
+either_ends false o p f g = g
+
+-- a thread that exits ends, whether it is marked or not
 ends_reply : (setup : Setup) (p t : ℕ) (s : State) (x : Thread) → by_id s.threads t ≡ Some x → runs_there p (Some x) ≡ true → (step setup (Proc p) (Call t (ThreadRequest (ThreadExits []))) s).reply ≡ EndedReply
 unfolding step outcome called served thread_call asked
-ends_reply setup p t s x at runs = rw (at, runs) refl
+ends_reply setup p t s x at there = rw (at, there) (either_ends (x.marked && true) _ _ refl refl)
 
 one_ends : (setup : Setup) (s : State) → list_any runs s.threads ≡ true → CanMove setup s
 one_ends setup s some =
@@ -88,36 +95,65 @@ ready_lives p x Running is h of = cc
 ready_lives p x Waiting is h of = cc
 ready_lives p x Ended is h of = cc
 
-turn_step : (setup : Setup) (p : ℕ) (s : State) → is_place setup p ≡ true → is_over p s ≡ false → list_any (runs_in p) s.threads ≡ false → is_held p s ≡ false → Moves (next_of s (pick (in_proc p s) s.line)).reply → Moves (step setup (Proc p) Next s).reply
+-- p is a place where it isn't over
+record IsOn (setup : Setup) (p : ℕ) (s : State) : Type 0 where
+  pub place : is_place setup p ≡ true
+  pub goes_on : is_over p s ≡ false
+
+not_over : (p : ℕ) (s : State) → s.over ≡ false → leb p s.opened ≡ true → list_any (lives_in p) s.threads ≡ true → is_over p s ≡ false
+not_over p s over opened some = rw (over, opened, some) refl
+
+opened_on : (setup : Setup) (p : ℕ) (s : State) → IsLined setup s → s.over ≡ false → list_any (lives_in p) s.threads ≡ true → 1 ≤ p → p ≤ s.opened → IsOn setup p s
+opened_on setup p s lined over live from to =
+    let low : leb 1 p ≡ true = le-leb 1 p from in
+    let high : leb p setup.places ≡ true = le-leb p setup.places (let o = lined.opened in omega (arith, o, to)) in
+    record { place = rw (low, high) refl; goes_on = not_over p s over (le-leb p s.opened to) live }
+
+-- so is each proc with a living thread, where the run goes on
+lives_on : (setup : Setup) (p : ℕ) (s : State) → IsLined setup s → s.over ≡ false → list_any (lives_in p) s.threads ≡ true → IsOn setup p s
+lives_on setup p s lined over live =
+    let f = found (lives_in p) s.threads live in
+    let same = eqb-true f.1.proc_no p (and_parts (eqb f.1.proc_no p) (not (is_ended f.1.place)) f.3).0 in
+    let proc = lined.procs f.0 f.1 f.2 in
+    opened_on setup p s lined over live (subst (λ (k : ℕ). 1 ≤ k) same proc.0) (subst (λ (k : ℕ). k ≤ s.opened) same proc.1)
+
+delivered_moves : (p : ℕ) (note : List ℕ) (o : Option ℕ) (s : State) → Moves (met_by p note o s).reply
+delivered_moves p note None s = (refl, λ e. cc)
+delivered_moves p note (Some id) s = (refl, λ e. cc)
+
+-- a note is delivered, or a thread has its turn
+first_moves : (p : ℕ) (s : State) (o : Option Delivery) → (is_some o ≡ false → Moves (next_of s (first_ready p s)).reply) → Moves (note_first p s o).reply
+first_moves p s None h = h refl
+first_moves p s (Some d) h = delivered_moves p d.note d.caught_by (with_proc (with_pending d.pending) p s)
+
+turn_step : (setup : Setup) (p : ℕ) (s : State) → IsOn setup p s → list_any (runs_in p) s.threads ≡ false → (is_some (next_note p s) ≡ false → Moves (next_of s (first_ready p s)).reply) → Moves (step setup (Proc p) Next s).reply
 unfolding step outcome next_event
-turn_step setup p s place over none free h = rw (place, over, none, free) h
+turn_step setup p s on none h = rw (on.place, on.goes_on, none) (first_moves p s (next_note p s) h)
 
 -- a proc that isn't held
 free_of : (b : Bool) → not b ≡ true → b ≡ false
 free_of true h = cc
 free_of false h = refl
 
-not_over : (p : ℕ) (s : State) → s.over ≡ false → leb p s.opened ≡ true → list_any (lives_in p) s.threads ≡ true → is_over p s ≡ false
-not_over p s over opened some = rw (over, opened, some) refl
-
 one_has_turn : (setup : Setup) (s : State) → IsLined setup s → s.over ≡ false → list_any runs s.threads ≡ false → list_any (can_run s) s.threads ≡ true → CanMove setup s
 one_has_turn setup s lined over none some =
     let f = found (can_run s) s.threads some in
     let can = and_parts (stands_ready f.1) (not (is_held f.1.proc_no s)) (f.3) in
-    let p : ℕ = f.1.proc_no in
     let of : eqb f.1.proc_no f.1.proc_no ≡ true = search (rules, tests) in
-    let proc = lined.procs f.0 f.1 f.2 in
-    let low : leb 1 f.1.proc_no ≡ true = le-leb 1 f.1.proc_no proc.0 in
-    let high : leb f.1.proc_no setup.places ≡ true = le-leb f.1.proc_no setup.places (let o = lined.opened in let h = proc.1 in omega (arith, o, h)) in
-    let place : is_place setup f.1.proc_no ≡ true = rw (low, high) refl in
-    let opened : leb f.1.proc_no s.opened ≡ true = le-leb f.1.proc_no s.opened proc.1 in
     let live : list_any (lives_in f.1.proc_no) s.threads ≡ true = any_at (lives_in f.1.proc_no) s.threads f.0 f.1 f.2 (ready_lives f.1.proc_no f.1 f.1.place refl can.0 of) in
     let ready : is_ready_thread (by_id s.threads f.0) ≡ true = rw (f.2) (can.0) in
     let in_line : list_any (λ u. eqb u f.0) s.line ≡ true = sym (lined.ready f.0) ∙ ready in
     let passes : is_of f.1.proc_no (by_id s.threads f.0) ≡ true = rw (f.2) of in
-    let m = turn_step setup f.1.proc_no s place (not_over f.1.proc_no s over opened live) (no_runs_in f.1.proc_no s.threads none) (free_of (is_held f.1.proc_no s) can.1)
-    (next_of_moves setup s (in_proc f.1.proc_no s) f.0 (pick (in_proc f.1.proc_no s) s.line) refl lined in_line passes) in
+    let moves : Moves (next_of s (first_ready f.1.proc_no s)).reply = rw (free_of (is_held f.1.proc_no s) can.1) (next_of_moves setup s (in_proc f.1.proc_no s) f.0 (pick (in_proc f.1.proc_no s) s.line) refl lined in_line passes) in
+    let m = turn_step setup f.1.proc_no s (lives_on setup f.1.proc_no s lined over live) (no_runs_in f.1.proc_no s.threads none) (λ _. moves) in
     record { seat = Proc f.1.proc_no; event = Next; makes = m.0; moves = m.1 }
+
+one_has_note : (setup : Setup) (s : State) → IsLined setup s → s.over ≡ false → list_any runs s.threads ≡ false → list_any has_note s.procs ≡ true → CanMove setup s
+one_has_note setup s lined over none some =
+    let f = found has_note s.procs some in
+    let noted : is_some (note_in (by_id s.procs f.0)) ≡ true = rw (f.2) (f.3) in
+    let m = turn_step setup f.0 s (lives_on setup f.0 s lined over (lined.notes f.0 noted)) (no_runs_in f.0 s.threads none) (λ h. absurd (clash (is_some (next_note f.0 s)) noted h)) in
+    record { seat = Proc f.0; event = Next; makes = m.0; moves = m.1 }
 
 always_refused : (call : IoCall) → fits call Refused ≡ true
 always_refused IoOpen = refl
@@ -143,11 +179,12 @@ call_moves setup s k Closed at h over live = cc
 one_has_call : (setup : Setup) (s : State) → list_any has_call s.ioprocs ≡ true → s.over ≡ false → list_any lives s.threads ≡ true → CanMove setup s
 one_has_call setup s some over live = let f = found has_call s.ioprocs some in call_moves setup s f.0 f.1 f.2 f.3 over live
 
-moves_by : (setup : Setup) (s : State) (b c d : Bool) → list_any runs s.threads ≡ b → list_any (can_run s) s.threads ≡ c → list_any has_call s.ioprocs ≡ d → IsLined setup s → s.over ≡ false → list_any lives s.threads ≡ true → (true && not b && not c && not d) ≡ false → CanMove setup s
-moves_by setup s true c d runs ready calls lined over live h = one_ends setup s runs
-moves_by setup s false true d runs ready calls lined over live h = one_has_turn setup s lined over runs ready
-moves_by setup s false false true runs ready calls lined over live h = one_has_call setup s calls over live
-moves_by setup s false false false runs ready calls lined over live h = cc
+moves_by : (setup : Setup) (s : State) (b c d e : Bool) → list_any runs s.threads ≡ b → list_any (can_run s) s.threads ≡ c → list_any has_call s.ioprocs ≡ d → list_any has_note s.procs ≡ e → IsLined setup s → s.over ≡ false → list_any lives s.threads ≡ true → (true && not b && not c && not d && not e) ≡ false → CanMove setup s
+moves_by setup s true c d e runs ready calls notes lined over live h = one_ends setup s runs
+moves_by setup s false true d e runs ready calls notes lined over live h = one_has_turn setup s lined over runs ready
+moves_by setup s false false true e runs ready calls notes lined over live h = one_has_call setup s calls over live
+moves_by setup s false false false true runs ready calls notes lined over live h = one_has_note setup s lined over runs notes
+moves_by setup s false false false false runs ready calls notes lined over live h = cc
 
 pub unstuck_moves : (setup : Setup) (s : State) → UnstuckMoves setup s
-unstuck_moves setup s lined over live unstuck = moves_by setup s _ _ _ refl refl refl lined over live (rw live at unstuck)
+unstuck_moves setup s lined over live unstuck = moves_by setup s _ _ _ _ refl refl refl refl lined over live (rw live at unstuck)

@@ -24,7 +24,9 @@ use Rattle.p9_manual.specs.declared.state.Ioproc.{Ioproc}
 use Rattle.p9_manual.specs.declared.state.Ioproc.TheVariants as stand
 use Rattle.p9_manual.specs.State.{State, Outcome, by_id}
 use Rattle.p9_manual.specs.Locks.{lock_call}
-use Rattle.p9_manual.specs.Places.{runs_there, runs_in, lives}
+use Rattle.p9_manual.specs.NoteCalls.{met_by, next_note}
+use Rattle.p9_manual.specs.Notes.{Delivery}
+use Rattle.p9_manual.specs.Places.{runs_in, lives}
 use Rattle.p9_manual.specs.Offers.{Alternation, alternation}
 use Rattle.p9_manual.specs.ReadyEntries.{fits as fits_chans}
 use Rattle.p9_manual.specs.Alt.{Verdict, AllClosed, Commits, NoneReady, MustWait, decided}
@@ -32,13 +34,14 @@ use Rattle.p9_manual.specs.Chans.{chan_call, by_alternation}
 use Rattle.p9_manual.specs.Ioprocs.{io_call, make, post_call, close_ioproc, take_call, did_call, io_event}
 use Rattle.p9_manual.specs.Effects.{fits, message_length}
 use Rattle.p9_manual.specs.Stuck.{is_stuck}
-use Rattle.p9_manual.specs.Next.{next_event, next_of, first_ready, turn, turn_reply, started, is_place, is_over}
+use Rattle.p9_manual.specs.Next.{next_event, next_of, note_first, first_ready, turn, turn_reply, started, is_place, is_over}
 use Rattle.p9_manual.specs.Step.{step, outcome, called, counted, makes_entry}
 use Rattle.p9_laws.specs.Refusals.{is_refusal}
 use Rattle.p9_laws.proofs.AskedChans.{DoesToChans, Tells, MakesChannel, FreesChannel, ClosesChannel, on_channel_does}
 use Rattle.p9_laws.proofs.AskedLocks.{DoesToLocks, Says, Counts, Gets, GetsInTurn, WaitsFor, GivesUp, Sleeps, Meets, MovesFirst, MovesAll, lock_call_does}
+use Rattle.p9_laws.proofs.AskedSignals.{DoesToSignals, Replies, Signals, SetsHandlers, Posts, signal_call_does}
 use Rattle.p9_laws.proofs.Asked.{Does, Answers, ChangesCaller, ChangesAside, MakesThread, MakesProc, GivesWay, Ends, EndsAll}
-use Rattle.p9_laws.proofs.Groups.{Kind, Plain, OfChans, OfLocks, OfIoprocs, served_kind}
+use Rattle.p9_laws.proofs.Groups.{Kind, Plain, OfSignals, OfChans, OfLocks, OfIoprocs, served_kind, CallOf, Strays, Dies, Serves, call_of}
 
 -- a refusal leaves this state
 abbrev Leaves : State → Outcome → Type 0
@@ -72,7 +75,7 @@ chan_leaves S t r s = alternation_leaves S t r s (alternation r)
 asked_leaves : (S : Setup) (t : ℕ) (s : State) (o : Outcome) → Does S t s o → Leaves s o
 asked_leaves S t s _ (Answers x) = λ e. refl
 asked_leaves S t s _ (ChangesCaller f caller x at leaves grants) = λ e. cc (e, grants)
-asked_leaves S t s _ (ChangesAside procs x grants) = λ e. cc (e, grants)
+asked_leaves S t s _ (ChangesAside procs x grants same) = λ e. cc (e, grants)
 asked_leaves S t s _ (MakesThread program arg caller at own) = λ e. cc
 asked_leaves S t s _ (MakesProc program arg caller at own room) = λ e. cc
 asked_leaves S t s _ GivesWay = λ e. cc
@@ -93,6 +96,13 @@ locks_leave S t s _ (MovesAll r n may) = λ e. cc
 
 lock_leaves : (S : Setup) (t : ℕ) (r : LockReq) (s : State) → Leaves s (lock_call S t r s)
 lock_leaves S t r s = locks_leave S t s _ (lock_call_does S t r s)
+
+-- only what is Bad is refused
+signals_leave : (s : State) (o : Outcome) → DoesToSignals s o → Leaves s o
+signals_leave s _ (Replies x) = λ e. refl
+signals_leave s _ (Signals n m by) = λ e. cc
+signals_leave s _ (SetsHandlers p handlers) = λ e. cc
+signals_leave s _ (Posts p note m alive by) = λ e. cc
 
 make_leaves : (k : ℕ) (s : State) (o : Option Ioproc) → Leaves s (make k s o)
 make_leaves k s None = λ e. refl
@@ -126,13 +136,18 @@ io_leaves S t (CloseIoProc k) s = close_ioproc_leaves k s _
 
 kind_leaves : (S : Setup) (t : ℕ) (s : State) (r : Request) (o : Outcome) → Kind S t s r o → Leaves s o
 kind_leaves S t s _ _ (Plain r o no_alt does) = asked_leaves S t s o does
+kind_leaves S t s _ _ (OfSignals r) = signals_leave s _ (signal_call_does t r s)
 kind_leaves S t s _ _ (OfChans r) = chan_leaves S t r s
 kind_leaves S t s _ _ (OfLocks r) = lock_leaves S t r s
 kind_leaves S t s _ _ (OfIoprocs r) = io_leaves S t r s
 
+call_leaves : (S : Setup) (p t : ℕ) (r : Request) (s : State) (o : Outcome) → CallOf S p t r s o → Leaves s o
+call_leaves S p t r s _ (Strays elsewhere) = λ e. refl
+call_leaves S p t r s _ (Dies there doomed) = λ e. cc
+call_leaves S p t r s _ (Serves there undoomed) = kind_leaves S t s r _ (served_kind S t r s)
+
 called_leaves : (S : Setup) (p t : ℕ) (r : Request) (s : State) → Leaves s (called S p t r s)
-unfolding called
-called_leaves S p t r s = if_leaves s (runs_there p (by_id s.threads t)) _ _ (kind_leaves S t s r _ (served_kind S t r s)) (λ e. refl)
+called_leaves S p t r s = call_leaves S p t r s _ (call_of S p t r s)
 
 -- only a request is refused
 place_leaves : (t program arg : ℕ) (pl : Place) (s : State) (n : State) → is_refusal (turn_reply t (program, arg, pl)) ≡ true → n ≡ s
@@ -150,10 +165,18 @@ next_of_leaves : (s : State) (o : Option (ℕ × List ℕ)) → Leaves s (next_o
 next_of_leaves s None = if_leaves s (is_stuck s) _ _ (λ e. cc) (λ e. refl)
 next_of_leaves s (Some found) = turn_leaves found.0 found.1 s (by_id s.threads found.0)
 
+met_leaves : (p : ℕ) (note : List ℕ) (o : Option ℕ) (s n : State) → Leaves s (met_by p note o n)
+met_leaves p note None s n = λ e. cc
+met_leaves p note (Some id) s n = λ e. cc
+
+note_leaves : (p : ℕ) (s : State) (o : Option Delivery) → Leaves s (note_first p s o)
+note_leaves p s None = next_of_leaves s (first_ready p s)
+note_leaves p s (Some d) = met_leaves p d.note d.caught_by s _
+
 next_leaves : (S : Setup) (p : ℕ) (s : State) → Leaves s (next_event S p s)
 unfolding next_event
 next_leaves S p s =
-    if_leaves s (not (is_place S p)) _ _ (λ e. refl) (if_leaves s (is_over p s) _ _ (λ e. refl) (if_leaves s (list_any (runs_in p) s.threads) _ _ (λ e. refl) (next_of_leaves s (first_ready p s))))
+    if_leaves s (not (is_place S p)) _ _ (λ e. refl) (if_leaves s (is_over p s) _ _ (λ e. refl) (if_leaves s (list_any (runs_in p) s.threads) _ _ (λ e. refl) (note_leaves p s (next_note p s))))
 
 take_leaves : (k : ℕ) (s : State) (o : Option Ioproc) → Leaves s (take_call k s o)
 take_leaves k s None = λ e. refl
@@ -188,6 +211,8 @@ refusals_make reply.Waits e = cc
 refusals_make reply.Ended e = cc
 refusals_make (reply.Begin t program arg) e = cc
 refusals_make (reply.Turn t a) e = cc
+refusals_make (reply.Caught id) e = cc
+refusals_make (reply.Died note) e = cc
 refusals_make reply.Idle e = cc
 refusals_make reply.Over e = cc
 refusals_make reply.Stuck e = cc

@@ -1,37 +1,41 @@
 -- What each request of a thread that runs does, also one that makes a thread or ends all.
 use Rattle.std.proofs.Common.{◌≡◌, ◌⊎◌, ℕ, ◌+◌, ◌-◌, ◌<◌, ◌≤◌, Bool, true, false, List, length, Option, Some, None, refl, ap, sym, ◌∙◌, inl, inr, arith}
-use Rattle.std.proofs.lemmas.Bool.{cases_eq}
+use Rattle.std.proofs.lemmas.Bool.{and_parts, cases_eq}
 use Rattle.p9_word.specs.Setup.{IsBetween}
 use Rattle.p9_word.specs.declared.answer.Answer.{Answer}
 use Rattle.p9_word.specs.declared.answer.Answer.TheVariants.{Done, Number}
 use Rattle.p9_word.specs.declared.request.Request.{Request}
 use Rattle.p9_word.specs.declared.request.Request.TheVariants.{Thread as ThreadRequest}
 use Rattle.p9_word.specs.declared.request.ThreadReq.{ThreadReq}
+use Rattle.p9_word.specs.declared.request.ThreadReq.TheVariants.{ThreadExitsAll}
 use Rattle.p9_word.specs.declared.io_call.IoCall.{IoCall}
 use Rattle.p9_word.specs.declared.setup.Setup.{Setup}
-use Rattle.p9_word.specs.declared.trail.Reply.TheVariants.{Now, Ended as EndedReply}
-use Rattle.p9_manual.specs.declared.state.Place.{Place}
-use Rattle.p9_manual.specs.declared.state.Place.TheVariants.{Running, New, Ready, Waiting, Ended}
+use Rattle.p9_word.specs.declared.trail.Reply.TheVariants.{Now, Ended as EndedReply, Stray}
+use Rattle.p9_manual.specs.declared.state.Place.TheVariants.{Running, Ended}
 use Rattle.p9_manual.specs.declared.state.Thread.{Thread}
-use Rattle.p9_manual.specs.State.{State, Outcome, Proc, by_id, changed, now, done}
-use Rattle.p9_manual.specs.Places.{lives, runs_there}
+use Rattle.p9_manual.specs.State.{State, Outcome, Proc, by_id, changed, now, done, replied, same}
+use Rattle.p9_manual.specs.Places.{is_marked, lives, runs_there}
 use Rattle.p9_manual.specs.Programs.{ends_all}
 use Rattle.p9_manual.specs.Create.{fresh, with_thread}
-use Rattle.p9_manual.specs.Ends.{all_ended, at_end}
+use Rattle.p9_manual.specs.Ends.{all_ended}
 use Rattle.p9_manual.specs.Threads.{thread_call, with_changed}
-use Rattle.p9_manual.specs.Step.{served}
+use Rattle.p9_manual.specs.NoteCalls.{with_note, with_proc}
+use Rattle.p9_manual.specs.Relinquish.{relinquishes}
+use Rattle.p9_manual.specs.Step.{called, is_doomed, served}
 use Rattle.p9_laws.specs.RunReplies.{IsCallReply}
 use Rattle.p9_laws.specs.IoReplies.{IsBegun}
-use Rattle.p9_laws.proofs.Tallies.{tally, tally-changed, tally-map}
+use Rattle.p9_laws.proofs.Tallies.{tally, tally-changed}
 use Rattle.p9_laws.proofs.Asked.{Does, Answers, ChangesCaller, ChangesAside, MakesThread, MakesProc, GivesWay, Ends, EndsAll, LeavesStanding, thread_call_ends_all}
-use Rattle.p9_laws.proofs.Groups.{Kind, Plain, OfChans, OfLocks, OfIoprocs, served_kind}
-use Rattle.p9_laws.proofs.Standing.{IsUp, place_of, place_in, times_waiting, times_in_line, get_by_id, by_id-changed_same, by_id-changed_other}
-use Rattle.p9_laws.proofs.RunMoves.{IsUpright, IsFading, is_unborn, RunsIn}
+use Rattle.p9_laws.proofs.AskedSignals.{DoesToSignals, Replies, Signals, SetsHandlers, Posts, signal_call_does}
+use Rattle.p9_laws.proofs.Groups.{Kind, Plain, OfSignals, OfChans, OfLocks, OfIoprocs, served_kind, CallOf, Strays, Dies, Serves, call_of}
+use Rattle.p9_laws.proofs.Standing.{IsUp, place_of, place_in, place_runs, times_waiting, times_in_line, get_by_id, by_id-changed_same, by_id-changed_other}
+use Rattle.p9_laws.proofs.RunMoves.{IsUpright, IsFading, IsSteady, is_unborn, RunsIn}
 use Rattle.p9_laws.proofs.RunCalls.{IsServed, done_served, now_served, io_call_served}
 use Rattle.p9_laws.proofs.RunChans.{chan_call_served}
 use Rattle.p9_laws.proofs.RunLocks.{lock_call_served}
 use Rattle.p9_laws.proofs.RunCreate.{making}
-use Rattle.p9_laws.proofs.RunEnds.{exits_served, all_places, all_unborn, none_lives, all_upright, all_begun}
+use Rattle.p9_laws.proofs.RunEnds.{exits_served, all_places, ended_begun, ended_moved, ended_upright, none_lives}
+use Rattle.p9_laws.proofs.RunSignals.{IsSignalling, aside_signalling, signalling}
 
 -- where a new thread is made: in the proc of a thread that runs, or in one that is opened now; and with which program
 pub record IsNewIn (setup : Setup) (s : State) (opened p program : ℕ) : Type 0 where
@@ -46,7 +50,7 @@ pub record IsNewIn (setup : Setup) (s : State) (opened p program : ℕ) : Type 0
 -- is made
 pub record IsShut (setup : Setup) (s : State) (opened : ℕ) (q : Thread → Bool) : Type 0 where
   pub fading : IsFading q
-  pub kept : (x y : Thread) → y.proc_no ≡ x.proc_no → y.program ≡ x.program → y.place ≡ x.place → q y ≡ true → q x ≡ true
+  pub kept : IsSteady q
   pub fresh : (p program arg group : ℕ) → IsNewIn setup s opened p program → q (fresh p program arg group) ≡ false
 
 -- what a request of a thread t that runs keeps
@@ -118,26 +122,21 @@ kept_called setup t s x f a at leaves upright =
     kept_runs : (p : ℕ) → runs_there p (Some (f x)) ≡ runs_there p (Some x)
     kept_runs p = rw (leaves.proc_no x, leaves.place x) refl
 
-ended_shut : (setup : Setup) (s : State) (n : ℕ) (q : Thread → Bool) → IsShut setup s n q → (x : Thread) (pl : Place) → x.place ≡ pl → q (at_end x) ≡ true → q x ≡ true
-ended_shut setup s n q shut x Running is h = shut.fading x Ended (rw is refl) h
-ended_shut setup s n q shut x New is h = shut.fading x Ended (rw is refl) h
-ended_shut setup s n q shut x (Ready a) is h = shut.fading x Ended (rw is refl) h
-ended_shut setup s n q shut x Waiting is h = shut.fading x Ended (rw is refl) h
-ended_shut setup s n q shut x Ended is h = shut.kept x (at_end x) refl refl (sym is) h
-
-all_called : (setup : Setup) (t : ℕ) (s : State) → IsUpright s → IsCalled setup t s (record { reply = EndedReply; moved = None; state = all_ended s })
+all_called : (setup : Setup) (t : ℕ) (s : State) → IsUpright s → IsCalled setup t s (replied EndedReply (all_ended s))
 all_called setup t s upright =
+    let is = ended_moved (λ u. true) s.threads in
+    let stands = ended_upright (λ u. true) s upright in
     record {
-      up = λ u h. absurd (rw (all_places s.threads u) at h);
-      unborn = all_unborn s.threads;
-      tallies = λ q h. tally-map q at_end (λ x. ended_shut setup s s.opened q h x x.place refl) s.threads;
-      upright = all_upright s upright;
+      up = is.up;
+      unborn = is.unborn;
+      tallies = λ q h. is.fades q h.fading;
+      upright = record { in_line = stands.in_line; in_waits = stands.in_waits; in_calls = stands.in_calls; short = stands.short };
       reply = tt;
       ends = λ e. all_places s.threads t;
       stays = λ a e. cc;
-      begun = all_begun s.ioprocs;
+      begun = ended_begun (λ u. true) s.ioprocs;
       over = λ h. refl;
-      ending = inr (none_lives s.threads);
+      ending = inr (none_lives 1 s.threads);
       grows = omega arith;
       within = λ h. h;
     }
@@ -208,28 +207,92 @@ place_there s t x at runs = sym (ap place_in at) ∙ runs
 asked_called : (setup : Setup) (t : ℕ) (s : State) (o : Outcome) → Does setup t s o → IsUpright s → RunsIn s t → IsCalled setup t s o
 asked_called setup t s _ (Answers a) upright runs = from_served setup t s _ (now_served s t a s.ioprocs upright (λ k call h. h))
 asked_called setup t s _ (ChangesCaller f x a at leaves grants) upright runs = kept_called setup t s x f a at leaves upright
-asked_called setup t s _ (ChangesAside procs a grants) upright runs = aside_called setup t procs a s upright
+asked_called setup t s _ (ChangesAside procs a grants same) upright runs = aside_called setup t procs a s upright
 asked_called setup t s _ (MakesThread program arg x at own) upright runs = made_called setup t program arg s x at (place_there s t x at runs) upright own
 asked_called setup t s _ (MakesProc program arg x at own room) upright runs = opened_called setup t program arg s x at (place_there s t x at runs) upright own room
 asked_called setup t s _ GivesWay upright runs = from_served setup t s _ (done_served s t Done upright runs)
-asked_called setup t s _ Ends upright runs = from_served setup t s _ (exits_served s t upright runs)
+asked_called setup t s _ Ends upright runs = from_served setup t s _ (exits_served s t upright)
 asked_called setup t s _ EndsAll upright runs = all_called setup t s upright
+
+-- an answer at once after threads are woken and marked
+signalled_called : (setup : Setup) (t : ℕ) (a : Answer) (s m : State) → IsSignalling t s m → IsCalled setup t s (now a m)
+signalled_called setup t a s m is =
+    let opened = is.opened in
+    record {
+      up = is.up;
+      unborn = is.unborn;
+      tallies = λ q h. is.tallies q h.fading h.kept;
+      upright = is.upright;
+      reply = tt;
+      ends = λ e. cc;
+      stays = λ b e p runs. is.stays p ∙ runs;
+      begun = λ k call h. rw (is.ioprocs) h;
+      over = λ h. is.over ∙ h;
+      ending = inl is.over;
+      grows = omega (arith, opened);
+      within = λ h. omega (arith, opened);
+    }
+
+signals_called : (setup : Setup) (t : ℕ) (s : State) (o : Outcome) → DoesToSignals s o → IsUpright s → RunsIn s t → IsCalled setup t s o
+signals_called setup t s _ (Replies a) upright runs = from_served setup t s _ (now_served s t a s.ioprocs upright (λ k call h. h))
+signals_called setup t s _ (Signals n m by) upright runs = signalled_called setup t (Number n) s m (signalling t m s by upright runs)
+signals_called setup t s _ (SetsHandlers p handlers) upright runs = aside_called setup t _ (Number 1) s upright
+signals_called setup t s _ (Posts p note m alive by) upright runs =
+    signalled_called setup t Done s m (aside_signalling t p (with_note note) s m (signalling t m (with_proc (with_note note) p s) by upright runs))
 
 kind_called : (setup : Setup) (t : ℕ) (s : State) (r : Request) (o : Outcome) → Kind setup t s r o → IsUpright s → RunsIn s t → IsCalled setup t s o
 kind_called setup t s _ _ (Plain r o no_alt does) upright runs = asked_called setup t s o does upright runs
+kind_called setup t s _ _ (OfSignals r) upright runs = signals_called setup t s _ (signal_call_does t r s) upright runs
 kind_called setup t s _ _ (OfChans r) upright runs = from_served setup t s _ (chan_call_served setup t r s upright runs)
 kind_called setup t s _ _ (OfLocks r) upright runs = from_served setup t s _ (lock_call_served setup t r s upright runs)
 kind_called setup t s _ _ (OfIoprocs r) upright runs = from_served setup t s _ (io_call_served setup t r s upright runs)
 
-pub served_called : (setup : Setup) (t : ℕ) (r : Request) (s : State) → IsUpright s → RunsIn s t → IsCalled setup t s (served setup t r s)
+served_called : (setup : Setup) (t : ℕ) (r : Request) (s : State) → IsUpright s → RunsIn s t → IsCalled setup t s (served setup t r s)
 served_called setup t r s upright runs = kind_called setup t s r _ (served_kind setup t r s) upright runs
+
+call_called : (setup : Setup) (p t : ℕ) (r : Request) (s : State) (o : Outcome) → CallOf setup p t r s o → IsUpright s → runs_there p (by_id s.threads t) ≡ true → IsCalled setup t s o
+call_called setup p t r s _ (Strays elsewhere) upright there = absurd (cc (elsewhere, there))
+call_called setup p t r s _ (Dies there doomed) upright _ = from_served setup t s _ (exits_served s t upright)
+call_called setup p t r s _ (Serves there undoomed) upright _ = served_called setup t r s upright (place_runs p (by_id s.threads t) there)
+
+-- the call of a thread that runs there
+pub running_called : (setup : Setup) (p t : ℕ) (r : Request) (s : State) → IsUpright s → runs_there p (by_id s.threads t) ≡ true → IsCalled setup t s (called setup p t r s)
+running_called setup p t r s upright there = call_called setup p t r s _ (call_of setup p t r s) upright there
+
+call_elsewhere : (setup : Setup) (p t : ℕ) (r : Request) (s : State) (o : Outcome) → CallOf setup p t r s o → runs_there p (by_id s.threads t) ≡ false → o ≡ same Stray s
+call_elsewhere setup p t r s _ (Strays elsewhere) e = refl
+call_elsewhere setup p t r s _ (Dies there doomed) e = absurd (cc (there, e))
+call_elsewhere setup p t r s _ (Serves there undoomed) e = absurd (cc (there, e))
+
+-- and that of any other one
+pub elsewhere_called : (setup : Setup) (p t : ℕ) (r : Request) (s : State) → runs_there p (by_id s.threads t) ≡ false → called setup p t r s ≡ same Stray s
+elsewhere_called setup p t r s e = call_elsewhere setup p t r s _ (call_of setup p t r s) e
 
 ended_all : (setup : Setup) (t : ℕ) (r : ThreadReq) (s : State) (o : Option Thread) → RunsIn s t → by_id s.threads t ≡ o → ends_all (ThreadRequest r) ≡ true → (u : ℕ) → IsUp (place_of (thread_call setup t r s).state.threads u) → ⊥
 ended_all setup t r s None runs at all u h = cc (ap place_in at, runs)
 ended_all setup t r s (Some x) runs at all u h = rw (thread_call_ends_all setup t r s x at all, all_places s.threads u) at h
 
 -- a request that ends all threads leaves none up
-pub served_all : (setup : Setup) (t : ℕ) (r : Request) (s : State) → RunsIn s t → ends_all r ≡ true → (u : ℕ) → IsUp (place_of (served setup t r s).state.threads u) → ⊥
+served_all : (setup : Setup) (t : ℕ) (r : Request) (s : State) → RunsIn s t → ends_all r ≡ true → (u : ℕ) → IsUp (place_of (served setup t r s).state.threads u) → ⊥
 unfolding served
 served_all setup t (ThreadRequest r) s runs all u h = ended_all setup t r s (by_id s.threads t) runs refl all u h
 served_all setup t r s runs all u h = cc
+
+-- it doesn't let others run before it does so
+all_stays : (r : Request) → ends_all r ≡ true → relinquishes r ≡ false
+all_stays (ThreadRequest (ThreadExitsAll text)) all = refl
+all_stays r all = cc
+
+undoomed_all : (t : ℕ) (r : Request) (s : State) → ends_all r ≡ true → is_doomed t r s ≡ true → ⊥
+undoomed_all t r s all doomed =
+    let gives_way = (and_parts (is_marked (by_id s.threads t)) (relinquishes r) doomed).1 in
+    cc (gives_way, all_stays r all)
+
+call_all : (setup : Setup) (p t : ℕ) (r : Request) (s : State) (o : Outcome) → CallOf setup p t r s o → runs_there p (by_id s.threads t) ≡ true → ends_all r ≡ true → (u : ℕ) → IsUp (place_of o.state.threads u) → ⊥
+call_all setup p t r s _ (Strays elsewhere) there all u h = cc (elsewhere, there)
+call_all setup p t r s _ (Dies there doomed) _ all u h = undoomed_all t r s all doomed
+call_all setup p t r s _ (Serves there undoomed) _ all u h = served_all setup t r s (place_runs p (by_id s.threads t) there) all u h
+
+-- nor does its call
+pub called_all : (setup : Setup) (p t : ℕ) (r : Request) (s : State) → runs_there p (by_id s.threads t) ≡ true → ends_all r ≡ true → (u : ℕ) → IsUp (place_of (called setup p t r s).state.threads u) → ⊥
+called_all setup p t r s there all u h = call_all setup p t r s _ (call_of setup p t r s) there all u h

@@ -13,7 +13,7 @@ use Rattle.p9_word.specs.declared.trail.Entry.{Entry}
 use Rattle.p9_word.specs.declared.trail.Event.{Event}
 use Rattle.p9_word.specs.declared.trail.Event.TheVariants.{Call, Next, IoTake, IoDid}
 use Rattle.p9_word.specs.declared.trail.Reply.{Reply}
-use Rattle.p9_word.specs.declared.trail.Reply.TheVariants.{Now, Ended as EndedReply, Stray}
+use Rattle.p9_word.specs.declared.trail.Reply.TheVariants.{Now, Ended as EndedReply}
 use Rattle.p9_word.specs.declared.trail.Seat.{Seat}
 use Rattle.p9_word.specs.declared.trail.Seat.TheVariants.{Proc, Io as IoSeat}
 use Rattle.p9_manual.specs.declared.state.Place.{Place}
@@ -21,18 +21,21 @@ use Rattle.p9_manual.specs.declared.state.Place.TheVariants.{Running, New, Ready
 use Rattle.p9_manual.specs.declared.state.Thread.{Thread}
 use Rattle.p9_manual.specs.declared.state.Ioproc.{Ioproc}
 use Rattle.p9_manual.specs.declared.state.Ioproc.TheVariants.{Unmade}
-use Rattle.p9_manual.specs.State.{State, Outcome, by_id, placed, at_place, same}
-use Rattle.p9_manual.specs.Places.{runs_in, runs_there}
+use Rattle.p9_manual.specs.State.{State, Outcome, by_id, placed, at_place}
+use Rattle.p9_manual.specs.NoteCalls.{met_by, next_note, with_pending, with_proc}
+use Rattle.p9_manual.specs.Notes.{Delivery}
+use Rattle.p9_manual.specs.Places.{is_of, runs_in, runs_there}
 use Rattle.p9_manual.specs.Stuck.{is_stuck}
-use Rattle.p9_manual.specs.Next.{next_event, first_ready, next_of, turn, turn_reply, started, is_place, is_over}
-use Rattle.p9_manual.specs.Step.{step, outcome, called, served, makes_entry, counted}
+use Rattle.p9_manual.specs.Next.{next_event, note_first, first_ready, next_of, turn, turn_reply, started, is_place, is_over}
+use Rattle.p9_manual.specs.Step.{step, outcome, called, makes_entry, counted}
 use Rattle.p9_manual.specs.History.{IsLegal, IsLegalFrom, after_entry, begin_state, state_after, new_thread, with_entry, ids_from}
 use Rattle.p9_manual.specs.Programs.{Life, Unborn, Lives, Dead, life, life_after, given_answer, ends_all, after_call, after_event, Asks, IsAsked, RunsFrom, RunsPrograms}
 use Rattle.p9_laws.specs.RunReplies.{IsLiving}
 use Rattle.p9_laws.proofs.Tallies.{tally}
-use Rattle.p9_laws.proofs.Standing.{IsUp, place_of, place_in, times_waiting, place_runs, by_id-suc, by_id-changed_same, by_id-changed_other, times_in_line}
+use Rattle.p9_laws.proofs.Standing.{IsUp, place_of, place_in, times_waiting, by_id-suc, by_id-changed_same, by_id-changed_other, times_in_line}
 use Rattle.p9_laws.proofs.RunMoves.{IsUpright, is_unborn, is_call_of, is_long, same_id, other_id}
-use Rattle.p9_laws.proofs.RunAsked.{IsCalled, served_called, served_all}
+use Rattle.p9_laws.proofs.RunAsked.{IsCalled, running_called, elsewhere_called, called_all}
+use Rattle.p9_laws.proofs.RunEnds.{ended_moved}
 use Rattle.p9_laws.proofs.RunTurns.{IsIoServed, io_served, Turned}
 use Rattle.p9_laws.proofs.RunSteps.{step_stepped}
 use Rattle.p9_laws.proofs.RunMembers.{AreMembers, members_on, begin_members}
@@ -92,11 +95,10 @@ call_agrees setup t request s o lives is all before u =
 abbrev pub EventAgrees : Event → (ℕ → Life) → Outcome → Type 0
 EventAgrees event lives o = Agrees (λ u. after_event u event o.reply (lives u)) o.state.threads
 
-called_agrees : (setup : Setup) (b : Bool) (p t : ℕ) (r : Request) (s : State) (lives : ℕ → Life) → runs_there p (by_id s.threads t) ≡ b → IsUpright s → Agrees lives s.threads → EventAgrees (Call t r) lives (cond b (served setup t r s) (same Stray s))
+called_agrees : (setup : Setup) (b : Bool) (p t : ℕ) (r : Request) (s : State) (lives : ℕ → Life) → runs_there p (by_id s.threads t) ≡ b → IsUpright s → Agrees lives s.threads → EventAgrees (Call t r) lives (called setup p t r s)
 called_agrees setup true p t r s lives e upright before =
-    let runs = place_runs p (by_id s.threads t) e in
-    call_agrees setup t r s _ lives (served_called setup t r s upright runs) (served_all setup t r s runs) before
-called_agrees setup false p t r s lives e upright before = before
+    call_agrees setup t r s _ lives (running_called setup p t r s upright e) (called_all setup p t r s e) before
+called_agrees setup false p t r s lives e upright before = rw (elsewhere_called setup p t r s e) before
 
 io_agrees : (s : State) (o : Outcome) (lives : ℕ → Life) → IsIoServed s o → Agrees lives s.threads → Agrees lives o.state.threads
 io_agrees s o lives is before u =
@@ -136,16 +138,27 @@ next_of_agrees : (s : State) (o : Option (ℕ × List ℕ)) (lives : ℕ → Lif
 next_of_agrees s None lives before makes = if_agrees (is_stuck s) lives _ _ (λ m. before) (λ m. before) makes
 next_of_agrees s (Some found) lives before makes = turn_agrees found.0 s found.1 (by_id s.threads found.0) lives refl makes before
 
+-- a note that is delivered brings nobody up
+met_agrees : (p : ℕ) (note : List ℕ) (pending : List (List ℕ)) (o : Option ℕ) (s : State) (lives : ℕ → Life) → Agrees lives s.threads → EventAgrees Next lives (met_by p note o (with_proc (with_pending pending) p s))
+met_agrees p note pending (Some id) s lives before u = before u
+met_agrees p note pending None s lives before u =
+    let is = ended_moved (λ t. is_of p (by_id s.threads t)) s.threads in
+    record { unborn = λ h. (before u).unborn (is.unborn u h); living = λ h. (before u).living (is.up u h) }
+
+note_agrees : (p : ℕ) (s : State) (o : Option Delivery) (lives : ℕ → Life) → Agrees lives s.threads → makes_entry (note_first p s o).reply ≡ true → EventAgrees Next lives (note_first p s o)
+note_agrees p s None lives before makes = next_of_agrees s (first_ready p s) lives before makes
+note_agrees p s (Some d) lives before makes = met_agrees p d.note d.pending d.caught_by s lives before
+
 next_agrees : (setup : Setup) (p : ℕ) (s : State) (lives : ℕ → Life) → Agrees lives s.threads → makes_entry (next_event setup p s).reply ≡ true → EventAgrees Next lives (next_event setup p s)
 unfolding next_event
 next_agrees setup p s lives before makes =
     if_agrees (not (is_place setup p)) lives _ _ (λ m. before)
     (λ m. if_agrees (is_over p s) lives _ _ (λ m. before)
     (λ m. if_agrees (list_any (runs_in p) s.threads) lives _ _ (λ m. before)
-    (λ m. next_of_agrees s (first_ready p s) lives before m) m) m) makes
+    (λ m. note_agrees p s (next_note p s) lives before m) m) m) makes
 
 outcome_agrees : (setup : Setup) (seat : Seat) (event : Event) (s : State) (lives : ℕ → Life) → IsUpright s → Agrees lives s.threads → makes_entry (outcome setup seat event s).reply ≡ true → EventAgrees event lives (outcome setup seat event s)
-unfolding outcome called
+unfolding outcome
 outcome_agrees setup (Proc p) (Call t r) s lives upright before makes = called_agrees setup _ p t r s lives refl upright before
 outcome_agrees setup (Proc p) Next s lives upright before makes = next_agrees setup p s lives before makes
 outcome_agrees setup (Proc p) IoTake s lives upright before makes = cc makes

@@ -17,10 +17,12 @@ use Rattle.p9_manual.specs.declared.state.Place.{Place}
 use Rattle.p9_manual.specs.declared.state.Place.TheVariants.{Running, New, Ready, Waiting, Ended}
 use Rattle.p9_manual.specs.declared.state.Thread.{Thread}
 use Rattle.p9_manual.specs.State.{State, Outcome, by_id, placed, at_place, same}
+use Rattle.p9_manual.specs.NoteCalls.{met_by, next_note}
+use Rattle.p9_manual.specs.Notes.{Delivery}
 use Rattle.p9_manual.specs.Places.{is_of, runs_in, runs_there, lives, lives_in, is_ended}
 use Rattle.p9_manual.specs.Stuck.{is_stuck}
-use Rattle.p9_manual.specs.Next.{next_event, first_ready, next_of, turn, turn_reply, started, is_place, is_over}
-use Rattle.p9_manual.specs.Step.{step, outcome, called, makes_entry, counted}
+use Rattle.p9_manual.specs.Next.{next_event, note_first, first_ready, next_of, turn, turn_reply, started, is_place, is_over}
+use Rattle.p9_manual.specs.Step.{step, outcome, makes_entry, counted}
 use Rattle.p9_manual.specs.History.{IsLegal, state_after}
 use Rattle.p9_manual.specs.Programs.{Life, life}
 use Rattle.p9_laws.specs.RunReplies.{reply_at, grown, IsCallReply, IsNextReply, IsGiven, RunsAfter, RunningLive, TurnReplies, TurnsRun, CallReplies, AnsweredRunOn, OverStays, GrownLegal, LivesGo, ProgramsGo}
@@ -28,7 +30,7 @@ use Rattle.p9_laws.proofs.Tallies.{tally, tally-at, tally-le, tally_none, none_t
 use Rattle.p9_laws.proofs.Standing.{IsUp, place_of, place_runs, get_by_id, by_id-changed_same}
 use Rattle.p9_laws.proofs.RunMoves.{IsUpright, IsFading}
 use Rattle.p9_laws.proofs.FirstReady.{in_proc, first_parts}
-use Rattle.p9_laws.proofs.RunAsked.{IsNewIn, IsShut, served_called}
+use Rattle.p9_laws.proofs.RunAsked.{IsNewIn, IsShut, running_called}
 use Rattle.p9_laws.proofs.RunSteps.{IsStepped, step_stepped}
 use Rattle.p9_laws.proofs.RunMembers.{program_at, is_foreign}
 use Rattle.p9_laws.proofs.RunHistory.{Agrees, AgreesIn, kept_after, life_grown, programs_grown, state_with, legal_grown}
@@ -59,13 +61,21 @@ next_of_lively : (lives : ℕ → Life) (programs : ℕ) (s : State) (o : Option
 next_of_lively lives programs s None before none = if_lively lives programs (is_stuck s) _ _ tt tt
 next_of_lively lives programs s (Some found) before none = turned_lively lives programs found.0 s _ (by_id s.threads found.0) refl before none
 
+met_lively : (lives : ℕ → Life) (programs p : ℕ) (note : List ℕ) (o : Option ℕ) (s : State) → IsNextReply lives programs (met_by p note o s).reply
+met_lively lives programs p note (Some id) s = tt
+met_lively lives programs p note None s = tt
+
+note_lively : (lives : ℕ → Life) (programs p : ℕ) (s : State) (o : Option Delivery) → Agrees lives s.threads → tally (is_foreign programs) s.threads ≡ 0 → IsNextReply lives programs (note_first p s o).reply
+note_lively lives programs p s None before none = next_of_lively lives programs s (first_ready p s) before none
+note_lively lives programs p s (Some d) before none = met_lively lives programs p d.note d.caught_by _
+
 step_lively : (setup : Setup) (p : ℕ) (s : State) (lives : ℕ → Life) → Agrees lives s.threads → tally (is_foreign setup.programs) s.threads ≡ 0 → IsNextReply lives setup.programs (step setup (Proc p) Next s).reply
 unfolding step outcome next_event
 step_lively setup p s lives before none =
     if_lively lives setup.programs (not (is_place setup p)) _ _ tt
     (if_lively lives setup.programs (is_over p s) _ _ tt
     (if_lively lives setup.programs (list_any (runs_in p) s.threads) _ _ tt
-    (next_of_lively lives setup.programs s (first_ready p s) before none)))
+    (note_lively lives setup.programs p s (next_note p s) before none)))
 
 pub turn_replies : (setup : Setup) (H : List Entry) → TurnReplies setup H
 turn_replies setup H p valid legal =
@@ -99,6 +109,14 @@ next_of_runs p s None e = if_runs p (is_stuck s) _ _ tt tt
 next_of_runs p s (Some found) e =
     turned_runs p found.0 (record s { line = found.1 }) (by_id s.threads found.0) refl (pick_passes (in_proc p s) s.line found.0 found.1 (first_parts p s found e).1)
 
+met_runs : (p : ℕ) (note : List ℕ) (o : Option ℕ) (s : State) → RunsNow p (met_by p note o s)
+met_runs p note (Some id) s = tt
+met_runs p note None s = tt
+
+note_runs : (p : ℕ) (s : State) (o : Option Delivery) → RunsNow p (note_first p s o)
+note_runs p s None = next_of_runs p s (first_ready p s) refl
+note_runs p s (Some d) = met_runs p d.note d.caught_by _
+
 given_on : (P Q : ℕ → Type 0) (r : Reply) → (makes_entry r ≡ true → (t : ℕ) → P t → Q t) → IsGiven P r → IsGiven Q r
 given_on P Q (Begin t program arg) f h = f refl t h
 given_on P Q (Turn t a) f h = f refl t h
@@ -115,7 +133,7 @@ step_runs setup p s =
     counted_runs p s (outcome setup (Proc p) Next s)
     (if_runs p (not (is_place setup p)) _ _ tt
     (if_runs p (is_over p s) _ _ tt
-    (if_runs p (list_any (runs_in p) s.threads) _ _ tt (next_of_runs p s (first_ready p s) refl))))
+    (if_runs p (list_any (runs_in p) s.threads) _ _ tt (note_runs p s (next_note p s)))))
 
 pub turns_run : (setup : Setup) (H : List Entry) → TurnsRun setup H
 turns_run setup H p =
@@ -136,10 +154,10 @@ counted_answered t s o is =
     }
 
 step_answered : (setup : Setup) (p t : ℕ) (r : Request) (s : State) → IsUpright s → runs_there p (by_id s.threads t) ≡ true → IsAnswered t s (step setup (Proc p) (Call t r) s)
-unfolding step outcome called
+unfolding step outcome
 step_answered setup p t r s upright runs =
-    let is = served_called setup t r s upright (place_runs p (by_id s.threads t) runs) in
-    counted_answered t s (outcome setup (Proc p) (Call t r) s) (rw runs (record { reply = is.reply; stays = is.stays }))
+    let is = running_called setup p t r s upright runs in
+    counted_answered t s (outcome setup (Proc p) (Call t r) s) (record { reply = is.reply; stays = is.stays })
 
 pub call_replies : (setup : Setup) (H : List Entry) → CallReplies setup H
 call_replies setup H p t r legal runs = (step_answered setup p t r (state_after setup H) (kept_after setup H legal).upright runs).reply
@@ -178,11 +196,19 @@ next_of_not_over : (s : State) (o : Option (ℕ × List ℕ)) → (next_of s o).
 next_of_not_over s None = unless (is_stuck s) _ _ (λ e. cc) (λ e. cc)
 next_of_not_over s (Some found) = turned_not_over found.0 _ (by_id s.threads found.0)
 
+met_not_over : (p : ℕ) (note : List ℕ) (o : Option ℕ) (s : State) → (met_by p note o s).reply ≡ Over → ⊥
+met_not_over p note (Some id) s e = cc
+met_not_over p note None s e = cc
+
+note_not_over : (p : ℕ) (s : State) (o : Option Delivery) → (note_first p s o).reply ≡ Over → ⊥
+note_not_over p s None = next_of_not_over s (first_ready p s)
+note_not_over p s (Some d) = met_not_over p d.note d.caught_by _
+
 pub over_cause : (setup : Setup) (q : ℕ) (s : State) → (step setup (Proc q) Next s).reply ≡ Over → (is_place setup q ≡ true) × (is_over q s ≡ true)
 unfolding step outcome next_event
 over_cause setup q s e =
     let there = stray_if (is_place setup q) _ s e in
-    (there.0, over_if (is_over q s) _ s (unless (list_any (runs_in q) s.threads) _ _ (λ h. cc) (next_of_not_over s (first_ready q s))) there.1)
+    (there.0, over_if (is_over q s) _ s (unless (list_any (runs_in q) s.threads) _ _ (λ h. cc) (note_not_over q s (next_note q s))) there.1)
 
 pub over_reply : (setup : Setup) (q : ℕ) (s : State) → is_place setup q ≡ true → is_over q s ≡ true → (step setup (Proc q) Next s).reply ≡ Over
 unfolding step outcome next_event

@@ -7,7 +7,7 @@ use Rattle.p9_word.specs.declared.answer.Answer.TheVariants.{Done, Number, Met}
 use Rattle.p9_word.specs.declared.request.LockReq.{LockReq}
 use Rattle.p9_word.specs.declared.request.LockReq.TheVariants as ask
 use Rattle.p9_word.specs.declared.request.Request.{Request}
-use Rattle.p9_word.specs.declared.request.Request.TheVariants.{Thread as ThreadRequest, Chan as ChanRequest, Lock as LockRequest, Io as IoRequest}
+use Rattle.p9_word.specs.declared.request.Request.TheVariants.{Thread as ThreadRequest, Signal as SignalRequest, Chan as ChanRequest, Lock as LockRequest, Io as IoRequest}
 use Rattle.p9_word.specs.declared.setup.Setup.{Setup}
 use Rattle.p9_manual.specs.declared.locks.LockWait.{LockWait}
 use Rattle.p9_manual.specs.declared.locks.LockWait.TheVariants as wait
@@ -203,6 +203,7 @@ no_sleep r t at (IoRequest x) h = cc
 no_sleep r t at (LockRequest x) h = refl
 no_sleep r t at (ChanRequest x) h = refl
 no_sleep r t at (ThreadRequest x) h = refl
+no_sleep r t at (SignalRequest x) h = refl
 
 io_blind : (r u : ℕ) → IsBlind r (is_io_wait_of u)
 io_blind r u b w h =

@@ -1,11 +1,10 @@
 -- What holds of the threads, the waits and the ioprocs of each state that a legal history comes to, as far as a runner
 -- of threads rests on it, and what the operations that the requests share keep of it.
-use Rattle.std.proofs.Common.{◌≡◌, ◌≢◌, ℕ, ◌-◌, ◌≤◌, Bool, true, false, cond, ◌&&◌, eqb, ltb, List, [], ◌∷◌, ◌++◌, map, Option, Some, None, refl, ap, sym, subst, ◌∙◌, inl, inr, arith, rules, tests}
+use Rattle.std.proofs.Common.{◌≡◌, ◌≢◌, ℕ, ◌-◌, ◌≤◌, Bool, true, false, ◌&&◌, eqb, ltb, List, [], ◌∷◌, ◌++◌, Option, Some, None, refl, ap, sym, subst, ◌∙◌, inl, inr, arith, rules, tests}
 use Rattle.std.proofs.lemmas.Bool.{cases_eq, and_parts}
 use Rattle.p9_word.specs.declared.answer.Answer.{Answer}
 use Rattle.p9_word.specs.declared.request.Request.{Request}
 use Rattle.p9_word.specs.declared.request.Request.TheVariants.{Io as IoRequest}
-use Rattle.p9_word.specs.declared.io_call.IoCall.{IoCall}
 use Rattle.p9_manual.specs.declared.state.Place.{Place}
 use Rattle.p9_manual.specs.declared.state.Place.TheVariants.{Running, New, Ready, Waiting, Ended}
 use Rattle.p9_manual.specs.declared.state.Thread.{Thread}
@@ -16,8 +15,7 @@ use Rattle.p9_manual.specs.Effects.{message_length}
 use Rattle.p9_manual.specs.State.{State, by_id, placed, at_place, waiting, readied}
 use Rattle.p9_manual.specs.LockWaits.{lined}
 use Rattle.p9_manual.specs.Places.{is_ended}
-use Rattle.p9_manual.specs.Ends.{ended, let_go}
-use Rattle.p9_laws.proofs.Tallies.{tally, tally-push, tally-changed, tally-map, tally-map_same, tally-le, filter_none}
+use Rattle.p9_laws.proofs.Tallies.{tally, tally-push, tally-changed, tally-le}
 use Rattle.p9_laws.proofs.Standing.{IsUp, IsMade, place_of, place_in, times_waiting, times_in_line, made_up, get_by_id, by_id-changed_same, by_id-changed_other, place_of-placed_same, place_of-placed_other}
 
 -- an ioproc keeps a call of thread u
@@ -60,6 +58,10 @@ IsUpright s = AreUpright s.threads s.line s.waits s.ioprocs
 -- a test of threads that one that hasn't ended passes wherever it is put, if it passes there
 abbrev pub IsFading : (Thread → Bool) → Type 0
 IsFading q = (x : Thread) (pl : Place) → is_ended x.place ≡ false → q (at_place pl x) ≡ true → q x ≡ true
+
+-- a test of threads that looks at no more than the proc, the program and the place
+abbrev pub IsSteady : (Thread → Bool) → Type 0
+IsSteady q = (x y : Thread) → y.proc_no ≡ x.proc_no → y.program ≡ x.program → y.place ≡ x.place → q y ≡ true → q x ≡ true
 
 abbrev pub is_new : Place → Bool
 is_new New = true
@@ -192,77 +194,12 @@ waiting_upright s t r ios upright runs calls short =
 pub apart : (x t u : ℕ) → u ≢ t → eqb x u ≡ true → eqb x t ≡ false
 apart x t u ne h = search (rules, tests)
 
-apart_back : (x t u : ℕ) → u ≢ t → eqb x t ≡ true → eqb x u ≡ false
-apart_back x t u ne h = search (rules, tests)
-
-posted_of : (t u : ℕ) (b : Bool) (x : ℕ) (call : IoCall) → u ≢ t → eqb x t ≡ b → is_call_of u (cond b Idle (Posted x call)) ≡ eqb x u
-posted_of t u true x call ne e = sym (apart_back x t u ne e)
-posted_of t u false x call ne e = refl
-
-kept_of : (t u : ℕ) (b : Bool) (x : ℕ) (call : IoCall) → u ≢ t → eqb x t ≡ b → is_call_of u (Begun (cond b None (Some x)) call) ≡ eqb x u
-kept_of t u true x call ne e = sym (apart_back x t u ne e)
-kept_of t u false x call ne e = refl
-
-let_go_of : (t u : ℕ) → u ≢ t → (io : Ioproc) → is_call_of u (let_go t io) ≡ is_call_of u io
-let_go_of t u ne (Posted x call) = posted_of t u (eqb x t) x call ne refl
-let_go_of t u ne (Begun None call) = refl
-let_go_of t u ne (Begun (Some x) call) = kept_of t u (eqb x t) x call ne refl
-let_go_of t u ne Unmade = refl
-let_go_of t u ne Idle = refl
-let_go_of t u ne Closed = refl
-
-long_posted : (b : Bool) (x : ℕ) (call : IoCall) → is_long (cond b Idle (Posted x call)) ≡ true → ltb 4294967295 (message_length call) ≡ true
-long_posted true x call h = cc
-long_posted false x call h = h
-
-let_go_long : (t : ℕ) (io : Ioproc) → is_long (let_go t io) ≡ true → is_long io ≡ true
-let_go_long t (Posted x call) h = long_posted (eqb x t) x call h
-let_go_long t (Begun x call) h = h
-let_go_long t Unmade h = h
-let_go_long t Idle h = h
-let_go_long t Closed h = h
-
-posted_away : (t : ℕ) (b : Bool) (x : ℕ) (call : IoCall) → eqb x t ≡ b → is_call_of t (cond b Idle (Posted x call)) ≡ false
-posted_away t true x call e = refl
-posted_away t false x call e = e
-
-kept_away : (t : ℕ) (b : Bool) (x : ℕ) (call : IoCall) → eqb x t ≡ b → is_call_of t (Begun (cond b None (Some x)) call) ≡ false
-kept_away t true x call e = refl
-kept_away t false x call e = e
-
-let_go_away : (t : ℕ) (io : Ioproc) → is_call_of t (let_go t io) ≡ false
-let_go_away t (Posted x call) = posted_away t (eqb x t) x call refl
-let_go_away t (Begun None call) = refl
-let_go_away t (Begun (Some x) call) = kept_away t (eqb x t) x call refl
-let_go_away t Unmade = refl
-let_go_away t Idle = refl
-let_go_away t Closed = refl
-
-none_away : (t : ℕ) → (ios : List Ioproc) → tally (is_call_of t) (map (let_go t) ios) ≡ 0
-none_away t [] = refl
-none_away t (io ∷ ios) = rw (let_go_away t io, none_away t ios) refl
-
 pub io_wait_tid : (u : ℕ) (w : Waiter) → is_io_wait_of u w ≡ true → eqb w.tid u ≡ true
 io_wait_tid u w h = (and_parts (eqb w.tid u) (asks_io w.request) h).0
 
 -- who waits for an ioproc waits
 pub io_waits : (u : ℕ) (waits : List Waiter) → tally (is_io_wait_of u) waits ≤ tally (λ w. eqb w.tid u) waits
 io_waits u waits = tally-le (is_io_wait_of u) (λ w. eqb w.tid u) (io_wait_tid u) waits
-
-ended_calls : (s : State) (t : ℕ) → IsUpright s → tally (λ w. eqb w.tid t) s.waits ≡ 0 → (u : ℕ) → tally (is_io_wait_of u) s.waits ≡ tally (is_call_of u) (map (let_go t) s.ioprocs)
-ended_calls s t upright none u = elim (cases_eq u t) [
-  | inl e ↦ let z = none_away t s.ioprocs in let k = io_waits t s.waits in rw (e, z) (omega (arith, k, none))
-  | inr ne ↦ rw (tally-map_same (is_call_of u) (let_go t) (let_go_of t u ne) s.ioprocs) (upright.in_calls u)
-]
-
-pub ended_upright : (s : State) (t : ℕ) → IsUpright s → RunsIn s t → IsUpright (ended t s)
-ended_upright s t upright runs =
-    let no_wait = upright.in_waits t ∙ ap times_waiting runs in
-    let no_place = upright.in_line t ∙ ap times_in_line runs in
-    rw (filter_none (λ w. eqb w.tid t) s.waits no_wait, filter_none (λ x. eqb x t) s.line no_place)
-    (placed_upright s.threads s.line s.line s.waits s.waits s.ioprocs (map (let_go t) s.ioprocs) t Ended upright (made_up s.threads t (runs_up s t runs))
-    (λ u ne. refl) no_place (λ u ne. refl) no_wait (ended_calls s t upright no_wait)
-    (let k = tally-map is_long (let_go t) (let_go_long t) s.ioprocs in let z = upright.short in omega (arith, k, z)))
 
 not_io : (b c : Bool) → c ≡ false → (b && c) ≡ false
 not_io true c h = h

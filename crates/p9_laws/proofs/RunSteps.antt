@@ -1,20 +1,18 @@
 -- What each event that makes an entry keeps.
-use Rattle.std.proofs.Common.{◌≡◌, ℕ, ◌≤◌, Bool, true, false, cond, Some, None, refl, ◌∙◌, arith}
+use Rattle.std.proofs.Common.{◌≡◌, ℕ, ◌≤◌, Bool, true, false, Some, None, refl, ◌∙◌, arith}
 use Rattle.p9_word.specs.declared.request.Request.{Request}
 use Rattle.p9_word.specs.declared.setup.Setup.{Setup}
 use Rattle.p9_word.specs.declared.trail.Event.{Event}
 use Rattle.p9_word.specs.declared.trail.Event.TheVariants.{Call, Next, IoTake, IoDid}
-use Rattle.p9_word.specs.declared.trail.Reply.TheVariants.{Stray}
 use Rattle.p9_word.specs.declared.trail.Seat.{Seat}
 use Rattle.p9_word.specs.declared.trail.Seat.TheVariants.{Proc, Io as IoSeat}
 use Rattle.p9_manual.specs.declared.state.Thread.{Thread}
-use Rattle.p9_manual.specs.State.{State, Outcome, by_id, same}
+use Rattle.p9_manual.specs.State.{State, Outcome, by_id}
 use Rattle.p9_manual.specs.Places.{runs_there}
-use Rattle.p9_manual.specs.Step.{step, outcome, called, served, makes_entry, counted}
+use Rattle.p9_manual.specs.Step.{step, outcome, called, makes_entry, counted}
 use Rattle.p9_laws.proofs.Tallies.{tally}
-use Rattle.p9_laws.proofs.Standing.{place_runs}
 use Rattle.p9_laws.proofs.RunMoves.{IsUpright, IsFading}
-use Rattle.p9_laws.proofs.RunAsked.{IsShut, IsCalled, served_called}
+use Rattle.p9_laws.proofs.RunAsked.{IsShut, IsCalled, running_called, elsewhere_called}
 use Rattle.p9_laws.proofs.RunTurns.{IsIoServed, io_served, IsTurned, next_turned}
 
 -- what one more entry keeps
@@ -39,12 +37,12 @@ io_on setup s o is = quiet_on setup s o is.moved.fades is.upright (λ h. is.over
 turned_on : (setup : Setup) (s : State) (o : Outcome) → IsTurned s o → IsStepped setup s o
 turned_on setup s o is = quiet_on setup s o is.fades is.upright is.over is.opened
 
-called_stepped : (setup : Setup) (b : Bool) (p t : ℕ) (r : Request) (s : State) → runs_there p (by_id s.threads t) ≡ b → IsUpright s → makes_entry (cond b (served setup t r s) (same Stray s)).reply ≡ true → IsStepped setup s (cond b (served setup t r s) (same Stray s))
-called_stepped setup true p t r s e upright makes = called_on setup t s _ (served_called setup t r s upright (place_runs p (by_id s.threads t) e))
-called_stepped setup false p t r s e upright makes = cc
+called_stepped : (setup : Setup) (b : Bool) (p t : ℕ) (r : Request) (s : State) → runs_there p (by_id s.threads t) ≡ b → IsUpright s → makes_entry (called setup p t r s).reply ≡ true → IsStepped setup s (called setup p t r s)
+called_stepped setup true p t r s e upright makes = called_on setup t s _ (running_called setup p t r s upright e)
+called_stepped setup false p t r s e upright makes = absurd (cc (rw (elsewhere_called setup p t r s e) at makes))
 
 outcome_stepped : (setup : Setup) (seat : Seat) (event : Event) (s : State) → IsUpright s → makes_entry (outcome setup seat event s).reply ≡ true → IsStepped setup s (outcome setup seat event s)
-unfolding outcome called
+unfolding outcome
 outcome_stepped setup (Proc p) (Call t r) s upright makes = called_stepped setup _ p t r s refl upright makes
 outcome_stepped setup (Proc p) Next s upright makes = turned_on setup s _ (next_turned setup p s upright makes)
 outcome_stepped setup (Proc p) IoTake s upright makes = cc

@@ -15,11 +15,14 @@ use Rattle.p9_manual.specs.declared.state.Ioproc.{Ioproc}
 use Rattle.p9_manual.specs.declared.state.Ioproc.TheVariants.{Unmade, Idle, Posted, Begun, Closed}
 use Rattle.p9_manual.specs.State.{State, Outcome, by_id, pick, placed, at_place, changed, same, waits_without}
 use Rattle.p9_manual.specs.LockWaits.{is_holding, lined, lock_waiters}
-use Rattle.p9_manual.specs.Places.{lives, runs_in, is_ended}
+use Rattle.p9_manual.specs.Ends.{Gone}
+use Rattle.p9_manual.specs.NoteCalls.{met_by, next_note, with_pending, with_proc}
+use Rattle.p9_manual.specs.Notes.{Delivery}
+use Rattle.p9_manual.specs.Places.{lives, runs_in, is_ended, is_of}
 use Rattle.p9_manual.specs.Stuck.{is_stuck}
 use Rattle.p9_manual.specs.Effects.{fits}
 use Rattle.p9_manual.specs.Ioprocs.{take_call, did_call, io_event, with_ioproc, answered}
-use Rattle.p9_manual.specs.Next.{next_event, first_ready, next_of, turn, turn_reply, started, stuck, is_place, is_over}
+use Rattle.p9_manual.specs.Next.{next_event, note_first, first_ready, next_of, turn, turn_reply, started, stuck, is_place, is_over}
 use Rattle.p9_manual.specs.Step.{makes_entry}
 use Rattle.p9_laws.specs.IoReplies.{IsBegun}
 use Rattle.p9_laws.proofs.Tallies.{tally, tally_pick, tally-changed, tally-put, tally-put_exact, tally-at, tally-filtered_out, tally-filtered_other}
@@ -27,6 +30,7 @@ use Rattle.p9_laws.proofs.Standing.{IsUp, place_of, times_waiting, made_up, get_
 use Rattle.p9_laws.proofs.RunMoves.{IsUpright, IsMoved, IsFading, is_call_of, is_long, unmoved, placed_moved, placed_upright, same_id, other_id, is_io_wait_of, io_waits, io_wait_tid, lined_other, lined_here, apart}
 use Rattle.p9_laws.proofs.FirstReady.{in_proc, first_parts}
 use Rattle.p9_laws.proofs.RunCalls.{put_upright, begun_elsewhere}
+use Rattle.p9_laws.proofs.RunEnds.{ended_begun, ended_moved, ended_upright}
 
 -- what an ioproc's event keeps
 pub record IsIoServed (s : State) (o : Outcome) : Type 0 where
@@ -162,12 +166,12 @@ did_begun j effect s (Some (Begun t other)) at k call ne h =
 pub record IsTurned (s : State) (o : Outcome) : Type 0 where
   pub fades : (q : Thread → Bool) → IsFading q → tally q o.state.threads ≤ tally q s.threads
   pub upright : IsUpright o.state
-  pub ioprocs : o.state.ioprocs ≡ s.ioprocs
+  pub begun : (k : ℕ) (call : IoCall) → IsBegun call (by_id s.ioprocs k) → IsBegun call (by_id o.state.ioprocs k)
   pub over : s.over ≡ true → o.state.over ≡ true
   pub opened : o.state.opened ≡ s.opened
 
 same_turned : (s : State) (r : Reply) → IsUpright s → IsTurned s (same r s)
-same_turned s r upright = record { fades = λ q h. omega arith; upright = upright; ioprocs = refl; over = λ h. h; opened = refl }
+same_turned s r upright = record { fades = λ q h. omega arith; upright = upright; begun = λ k call h. h; over = λ h. h; opened = refl }
 
 abbrev pub Turned : ℕ → State → Thread → Place → Outcome
 Turned t s thread pl = record { reply = turn_reply t (thread.program, thread.arg, pl); moved = None; state = record s { threads = placed t Running s.threads } }
@@ -182,7 +186,7 @@ turned p t rest s thread pl e at is alive free lined upright =
           (λ u ne. let k = tally_pick p (λ x. eqb x u) s.line t rest e in let z = rw (other_id t u ne) at k in omega (arith, z))
           (let k = tally_pick p (λ x. eqb x t) s.line t rest e in let z = rw (same_id t) at k in let l = upright.in_line t ∙ ap times_in_line here in omega (arith, z, l, lined))
           (λ u ne. refl) (upright.in_waits t ∙ ap times_waiting here ∙ free) upright.in_calls upright.short;
-      ioprocs = refl;
+      begun = λ k call h. h;
       over = λ h. h;
       opened = refl;
     }
@@ -203,11 +207,28 @@ if_turned true s o p f g makes = f makes
 if_turned false s o p f g makes = g makes
 
 stuck_turned : (s : State) → IsUpright s → IsTurned s (stuck s)
-stuck_turned s upright = record { fades = λ q h. omega arith; upright = upright; ioprocs = refl; over = λ h. refl; opened = refl }
+stuck_turned s upright = record { fades = λ q h. omega arith; upright = upright; begun = λ k call h. h; over = λ h. refl; opened = refl }
 
 next_of_turned : (p : ℕ) (s : State) (o : Option (ℕ × List ℕ)) → first_ready p s ≡ o → IsUpright s → makes_entry (next_of s o).reply ≡ true → IsTurned s (next_of s o)
 next_of_turned p s None e upright makes = if_turned (is_stuck s) s _ _ (λ m. stuck_turned s upright) (λ m. same_turned s _ upright) makes
 next_of_turned p s (Some found) e upright makes = turn_turned (in_proc p s) found.0 found.1 s (by_id s.threads found.0) (first_parts p s found e).1 refl makes upright
+
+-- a note that is delivered, with or without the end of the proc's threads
+met_turned : (p : ℕ) (note : List ℕ) (pending : List (List ℕ)) (o : Option ℕ) (s : State) → IsUpright s → IsTurned s (met_by p note o (with_proc (with_pending pending) p s))
+met_turned p note pending (Some id) s upright = record { fades = λ q h. omega arith; upright = upright; begun = λ k call h. h; over = λ h. h; opened = refl }
+met_turned p note pending None s upright =
+    let ends : Gone = λ t. is_of p (by_id s.threads t) in
+    record {
+      fades = (ended_moved ends s.threads).fades;
+      upright = ended_upright ends (with_proc (with_pending pending) p s) upright;
+      begun = ended_begun ends s.ioprocs;
+      over = λ h. h;
+      opened = refl;
+    }
+
+note_turned : (p : ℕ) (s : State) (o : Option Delivery) → IsUpright s → makes_entry (note_first p s o).reply ≡ true → IsTurned s (note_first p s o)
+note_turned p s None upright makes = next_of_turned p s (first_ready p s) refl upright makes
+note_turned p s (Some d) upright makes = met_turned p d.note d.pending d.caught_by s upright
 
 pub next_turned : (setup : Setup) (p : ℕ) (s : State) → IsUpright s → makes_entry (next_event setup p s).reply ≡ true → IsTurned s (next_event setup p s)
 unfolding next_event
@@ -215,4 +236,4 @@ next_turned setup p s upright makes =
     if_turned (not (is_place setup p)) s _ _ (λ m. same_turned s _ upright)
     (λ m. if_turned (is_over p s) s _ _ (λ m. same_turned s _ upright)
     (λ m. if_turned (list_any (runs_in p) s.threads) s _ _ (λ m. same_turned s _ upright)
-    (λ m. next_of_turned p s (first_ready p s) refl upright m) m) m) makes
+    (λ m. note_turned p s (next_note p s) upright m) m) m) makes

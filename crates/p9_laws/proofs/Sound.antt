@@ -21,6 +21,7 @@ pub mod Ends
 pub mod Fields
 pub mod Threads
 pub mod Ioprocs
+pub mod Signals
 pub mod Next
 pub mod LockGrants
 pub mod LockTurns

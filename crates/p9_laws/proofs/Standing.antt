@@ -55,7 +55,8 @@ slice_get-changed_same f [] i = refl
 slice_get-changed_same f (x ∷ xs) zero = refl
 slice_get-changed_same f (x ∷ xs) (suc i) = slice_get-changed_same f xs i
 
-slice_get-changed_other : {A : Type 0} (f : A → A) → (xs : List A) (i j : ℕ) → j ≢ i → slice_get (changed f xs i) j ≡ slice_get xs j
+-- an item that isn't the one that was changed
+pub slice_get-changed_other : {A : Type 0} (f : A → A) → (xs : List A) (i j : ℕ) → j ≢ i → slice_get (changed f xs i) j ≡ slice_get xs j
 slice_get-changed_other f [] i j ne = refl
 slice_get-changed_other f (x ∷ xs) zero zero ne = absurd (ne refl)
 slice_get-changed_other f (x ∷ xs) zero (suc j) ne = refl

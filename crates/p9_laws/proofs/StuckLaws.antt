@@ -2,6 +2,7 @@
 use Rattle.std.proofs.Common.{◌≡◌, ℕ, suc, ◌-◌, Bool, true, false, not, cond, ◌&&◌, ◌||◌, eqb, List, [], ◌∷◌, Option, Some, None, refl, ◌∙◌, arith, rules, tests}
 use Rattle.std.specs.Prelude.{option_map, slice_get}
 use Rattle.std.specs.List.{list_any}
+use Rattle.std.specs.Option.{is_some}
 use Rattle.std.proofs.lemmas.Bool.{and_parts, eqb-true, true_from_ne_false}
 use Rattle.p9_word.specs.declared.io_call.Effect.{Effect}
 use Rattle.p9_word.specs.declared.setup.Setup.{Setup}
@@ -16,12 +17,14 @@ use Rattle.p9_manual.specs.declared.state.Place.TheVariants.{Running, New, Ready
 use Rattle.p9_manual.specs.declared.state.Thread.{Thread}
 use Rattle.p9_manual.specs.declared.state.Ioproc.{Ioproc}
 use Rattle.p9_manual.specs.declared.state.Ioproc.TheVariants.{Unmade, Idle, Posted, Begun, Closed}
-use Rattle.p9_manual.specs.State.{State, Outcome, by_id, pick, same}
+use Rattle.p9_manual.specs.State.{State, Outcome, Proc as ProcPlace, by_id, pick, same}
+use Rattle.p9_manual.specs.NoteCalls.{has_note, met_by, next_note, note_in}
+use Rattle.p9_manual.specs.Notes.{Delivery, delivery}
 use Rattle.p9_manual.specs.Places.{is_of, runs, runs_in, runs_there, lives, stands_ready, has_call, is_running, is_ready}
 use Rattle.p9_manual.specs.Held.{is_held}
 use Rattle.p9_manual.specs.Stuck.{can_run, is_stuck}
 use Rattle.p9_manual.specs.Ioprocs.{take_call, did_call, io_event}
-use Rattle.p9_manual.specs.Next.{next_event, first_ready, next_of, turn, turn_reply, started, stuck, is_place, is_over}
+use Rattle.p9_manual.specs.Next.{next_event, note_first, first_ready, next_of, turn, turn_reply, started, stuck, is_place, is_over}
 use Rattle.p9_manual.specs.Step.{step, outcome, called, makes_entry}
 use Rattle.p9_laws.specs.StuckReplies.{is_ready_thread, IsLined, StuckAlone, StuckCause, StuckTold}
 use Rattle.p9_laws.proofs.Tallies.{tally-at, tally_none, tally_pick, pick_passes}
@@ -62,18 +65,20 @@ pub record IsStill (s : State) : Type 0 where
   pub runs : list_any runs s.threads ≡ false
   pub ready : list_any (can_run s) s.threads ≡ false
   pub calls : list_any has_call s.ioprocs ≡ false
+  pub notes : list_any has_note s.procs ≡ false
 
-parts : (a b c d : Bool) → (a && not b && not c && not d) ≡ true → (a ≡ true) × (b ≡ false) × (c ≡ false) × (d ≡ false)
-parts true false false false h = (refl, refl, refl, refl)
-parts true true c d h = cc
-parts true false true d h = cc
-parts true false false true h = cc
-parts false b c d h = cc
+parts : (a b c d e : Bool) → (a && not b && not c && not d && not e) ≡ true → (a ≡ true) × (b ≡ false) × (c ≡ false) × (d ≡ false) × (e ≡ false)
+parts true false false false false h = (refl, refl, refl, refl, refl)
+parts true true c d e h = cc
+parts true false true d e h = cc
+parts true false false true e h = cc
+parts true false false false true h = cc
+parts false b c d e h = cc
 
-still : (s : State) → is_stuck s ≡ true → IsStill s
+pub still : (s : State) → is_stuck s ≡ true → IsStill s
 still s h =
-    let p = parts (list_any lives s.threads) (list_any runs s.threads) (list_any (can_run s) s.threads) (list_any has_call s.ioprocs) h in
-    record { lives = p.0; runs = p.1; ready = p.2; calls = p.3 }
+    let p = parts (list_any lives s.threads) (list_any runs s.threads) (list_any (can_run s) s.threads) (list_any has_call s.ioprocs) (list_any has_note s.procs) h in
+    record { lives = p.0; runs = p.1; ready = p.2; calls = p.3; notes = p.4 }
 
 pub clash : (b : Bool) → b ≡ true → b ≡ false → ⊥
 clash b e f = cc
@@ -104,6 +109,10 @@ turn_quiet : (p t : ℕ) (s more : State) (o : Option Thread) → by_id s.thread
 turn_quiet p t s more None at of free none = refl
 turn_quiet p t s more (Some x) at of free none = turn_stray t x x.place (unready p t s x at of free none (is_ready x.place) refl)
 
+unplaced : (b : Bool) → not b ≡ false → b ≡ true
+unplaced true h = refl
+unplaced false h = cc
+
 next_of_stuck : (p : ℕ) (s : State) (o : Option (ℕ × List ℕ)) → first_ready p s ≡ o → is_stuck s ≡ true → OnlyStuck (next_of s o)
 next_of_stuck p s None e h = rw h (λ makes. refl)
 next_of_stuck p s (Some found) e h = λ makes.
@@ -111,12 +120,29 @@ next_of_stuck p s (Some found) e h = λ makes.
     let of = pick_passes (in_proc p s) s.line found.0 found.1 at.1 in
     absurd (clash _ makes (turn_quiet p found.0 s _ (by_id s.threads found.0) refl of at.0 (still s h).ready))
 
+-- no note is delivered where none is pending
+pub no_note : (p : ℕ) (s : State) → list_any has_note s.procs ≡ false → next_note p s ≡ None
+no_note p s none = at_proc (by_id s.procs p) refl
+  where
+    no_delivery : (o : Option Delivery) → is_some o ≡ false → o ≡ None
+    no_delivery None h = refl
+    no_delivery (Some d) h = cc
+
+    none_pending : (b : Bool) → (b ≡ true → list_any has_note s.procs ≡ true) → b ≡ false
+    none_pending true h = absurd (clash (list_any has_note s.procs) (h refl) none)
+    none_pending false h = refl
+
+    at_proc : (o : Option ProcPlace) → by_id s.procs p ≡ o → note_in o ≡ None
+    at_proc None at = refl
+    at_proc (Some proc) at =
+        no_delivery (delivery proc.handlers proc.pending) (none_pending (has_note proc) (λ h. any_at has_note s.procs p proc at h))
+
 next_stuck : (setup : Setup) (p : ℕ) (s : State) → is_stuck s ≡ true → OnlyStuck (next_event setup p s)
 unfolding next_event
 next_stuck setup p s h =
     only_if (not (is_place setup p)) _ _ (λ _ m. cc)
     (λ _. only_if (is_over p s) _ _ (λ _ m. cc)
-    (λ _. only_if (list_any (runs_in p) s.threads) _ _ (λ _ m. cc) (λ _. next_of_stuck p s (first_ready p s) refl h)))
+    (λ _. only_if (list_any (runs_in p) s.threads) _ _ (λ _ m. cc) (λ _. rw (no_note p s (still s h).notes) (next_of_stuck p s (first_ready p s) refl h))))
 
 take_stuck : (k : ℕ) (s : State) (o : Option Ioproc) → by_id s.ioprocs k ≡ o → list_any has_call s.ioprocs ≡ false → OnlyStuck (take_call k s o)
 take_stuck k s None at none = λ m. cc
@@ -137,7 +163,8 @@ did_stuck k effect s (Some Idle) at none = λ m. cc
 outcome_stuck : (setup : Setup) (seat : Seat) (event : Event) (s : State) → is_stuck s ≡ true → OnlyStuck (outcome setup seat event s)
 unfolding outcome called io_event
 outcome_stuck setup (Proc p) (Call t r) s h =
-    only_if (runs_there p (by_id s.threads t)) _ _ (λ yes. absurd (none_there p t s.threads (by_id s.threads t) refl (still s h).runs yes)) (λ _ m. cc)
+    only_if (not (runs_there p (by_id s.threads t))) _ _ (λ _ m. cc)
+    (λ yes. absurd (none_there p t s.threads (by_id s.threads t) refl (still s h).runs (unplaced (runs_there p (by_id s.threads t)) yes)))
 outcome_stuck setup (Proc p) Next s h = next_stuck setup p s h
 outcome_stuck setup (Proc p) IoTake s h = λ m. cc
 outcome_stuck setup (Proc p) (IoDid effect) s h = λ m. cc
@@ -154,10 +181,6 @@ stuck_alone setup s h = λ seat event m. outcome_stuck setup seat event s h m
 stuck_step : (b : Bool) (r : Reply) (o : Outcome) (s : State) → (r ≡ Stuck → ⊥) → (cond b (same r s) o).reply ≡ Stuck → (b ≡ false) × (o.reply ≡ Stuck)
 stuck_step true r o s h e = absurd (h e)
 stuck_step false r o s h e = (refl, e)
-
-unplaced : (b : Bool) → not b ≡ false → b ≡ true
-unplaced true h = refl
-unplaced false h = cc
 
 turn_not_stuck : (t program arg : ℕ) (pl : Place) → turn_reply t (program, arg, pl) ≡ Stuck → ⊥
 turn_not_stuck t program arg New e = cc
@@ -178,13 +201,21 @@ next_of_cause : (s : State) (o : Option (ℕ × List ℕ)) → (next_of s o).rep
 next_of_cause s None e = told_stuck (is_stuck s) s e
 next_of_cause s (Some found) e = absurd (turned_not_stuck found.0 _ (by_id s.threads found.0) e)
 
+met_not_stuck : (p : ℕ) (note : List ℕ) (o : Option ℕ) (s : State) → (met_by p note o s).reply ≡ Stuck → ⊥
+met_not_stuck p note (Some id) s e = cc
+met_not_stuck p note None s e = cc
+
+note_cause : (p : ℕ) (s : State) (o : Option Delivery) → (note_first p s o).reply ≡ Stuck → is_stuck s ≡ true
+note_cause p s None e = next_of_cause s (first_ready p s) e
+note_cause p s (Some d) e = absurd (met_not_stuck p d.note d.caught_by _ e)
+
 pub stuck_cause : (setup : Setup) (s : State) → StuckCause setup s
 unfolding step outcome next_event
 stuck_cause setup s p e =
     let a = stuck_step (not (is_place setup p)) Stray _ s (λ h. cc) e in
     let b = stuck_step (is_over p s) Over _ s (λ h. cc) a.1 in
     let c = stuck_step (list_any (runs_in p) s.threads) Stray _ s (λ h. cc) b.1 in
-    record { place = unplaced (is_place setup p) a.0; goes_on = b.0; stuck = next_of_cause s (first_ready p s) c.1 }
+    record { place = unplaced (is_place setup p) a.0; goes_on = b.0; stuck = note_cause p s (next_note p s) c.1 }
 
 -- who is in the line is ready
 pub in_line_ready : (setup : Setup) (s : State) (p : ℕ → Bool) (t : ℕ) (rest : List ℕ) → IsLined setup s → pick p s.line ≡ Some (t, rest) → is_ready_thread (by_id s.threads t) ≡ true
@@ -219,5 +250,5 @@ next_of_told setup s p (Some found) e lined h =
 pub stuck_told : (setup : Setup) (s : State) → StuckTold setup s
 unfolding step outcome next_event
 stuck_told setup s lined p at =
-    rw (at.place, at.goes_on, no_runs_in p s.threads (still s at.stuck).runs)
+    rw (at.place, at.goes_on, no_runs_in p s.threads (still s at.stuck).runs, no_note p s (still s at.stuck).notes)
     (next_of_told setup s p (first_ready p s) refl lined at.stuck)

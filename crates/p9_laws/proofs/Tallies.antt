@@ -1,23 +1,14 @@
 -- How often a test passes in a list, where the list is picked from, added to or changed at an index.
-use Rattle.std.proofs.Common.{◌≡◌, ℕ, zero, suc, ◌+◌, ◌≤◌, Bool, true, false, not, cond, ◌||◌, List, [], ◌∷◌, ◌++◌, map, Option, Some, None, refl, ap, subst, arith}
+use Rattle.std.proofs.Common.{◌≡◌, ℕ, zero, suc, ◌+◌, ◌≤◌, Bool, true, false, not, cond, ◌||◌, List, [], ◌∷◌, ◌++◌, map, Option, Some, None, refl, subst, arith}
 use Rattle.std.specs.Prelude.{slice_get, All}
 use Rattle.std.specs.List.{filter, find, list_any}
 use Rattle.std.proofs.lemmas.List.Elements.{All-head, All-tail}
 use Rattle.std.proofs.lemmas.Option.{some_pair_parts}
-use Rattle.p9_manual.specs.State.{changed, pick, behind}
+use Rattle.p9_manual.specs.State.{changed, each_from, pick, behind}
 
 abbrev pub tally : {A : Type 0} → (A → Bool) → List A → ℕ
 tally p [] = 0
 tally p (x ∷ xs) = cond (p x) 1 0 + tally p xs
-
-keep_step : {A : Type 0} (b : Bool) (x : A) (xs rest : List A) (n : ℕ) → cond b 1 0 + n ≡ 0 → (n ≡ 0 → rest ≡ xs) → cond (not b) (x ∷ rest) rest ≡ x ∷ xs
-keep_step true x xs rest n h k = absurd (omega arith)
-keep_step false x xs rest n h k = ap (λ ys. x ∷ ys) (k (omega arith))
-
--- what passes nowhere is kept whole
-pub filter_none : {A : Type 0} (p : A → Bool) → (xs : List A) → tally p xs ≡ 0 → filter (λ x. not (p x)) xs ≡ xs
-filter_none p [] h = refl
-filter_none p (x ∷ xs) h = keep_step (p x) x xs (filter (λ y. not (p y)) xs) (tally p xs) h (filter_none p xs)
 
 filter_same : {A : Type 0} (p : A → Bool) (b : Bool) (x : A) (rest : List A) → p x ≡ b → tally p rest ≡ 0 → tally p (cond (not b) (x ∷ rest) rest) ≡ 0
 filter_same p true x rest e h = h
@@ -89,10 +80,6 @@ tally-changed q f (y ∷ xs) zero x at h =
     rw same (omega (arith, k))
 tally-changed q f (y ∷ xs) (suc i) x at h = omega (arith, tally-changed q f xs i x at h)
 
-at_most_one : (b : Bool) → cond b 1 0 ≤ 1
-at_most_one true = omega arith
-at_most_one false = omega arith
-
 -- an item put at an index
 pub tally-put : {A : Type 0} (q : A → Bool) (y : A) → (xs : List A) (i : ℕ) → tally q (changed (λ _. y) xs i) ≤ tally q xs + cond (q y) 1 0
 tally-put q y [] i = omega arith
@@ -108,6 +95,17 @@ tally-at q (y ∷ xs) (suc i) x at h = let k = tally-at q xs i x at h in omega (
 pub tally-map : {A : Type 0} (q : A → Bool) (f : A → A) → ((x : A) → q (f x) ≡ true → q x ≡ true) → (xs : List A) → tally q (map f xs) ≤ tally q xs
 tally-map q f h [] = omega arith
 tally-map q f h (x ∷ xs) = let k = one_of (q (f x)) (q x) (h x) in omega (arith, k, tally-map q f h xs)
+
+-- items that pass only if the ones before did, each changed by its id
+pub tally-each_from : {A : Type 0} (q : A → Bool) (f : ℕ → A → A) → ((k : ℕ) (x : A) → q (f k x) ≡ true → q x ≡ true) → (n : ℕ) (xs : List A) → tally q (each_from f n xs) ≤ tally q xs
+tally-each_from q f h n [] = omega arith
+tally-each_from q f h n (x ∷ xs) = let k = one_of (q (f n x)) (q x) (h n x) in omega (arith, k, tally-each_from q f h (suc n) xs)
+
+-- an item at an index that passes only if the one before did, if there is one
+pub tally-changed_there : {A : Type 0} (q : A → Bool) (f : A → A) → ((x : A) → q (f x) ≡ true → q x ≡ true) → (xs : List A) (i : ℕ) → tally q (changed f xs i) ≤ tally q xs
+tally-changed_there q f h [] i = omega arith
+tally-changed_there q f h (x ∷ xs) zero = let k = one_of (q (f x)) (q x) (h x) in omega (arith, k)
+tally-changed_there q f h (x ∷ xs) (suc i) = omega (arith, tally-changed_there q f h xs i)
 
 none_step : (b c : Bool) (n : ℕ) → (b || c) ≡ false → (c ≡ false → n ≡ 0) → cond b 1 0 + n ≡ 0
 none_step true c n h k = cc

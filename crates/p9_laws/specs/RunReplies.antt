@@ -7,7 +7,7 @@ use Rattle.p9_word.specs.declared.setup.Setup.{Setup}
 use Rattle.p9_word.specs.declared.trail.Event.{Event}
 use Rattle.p9_word.specs.declared.trail.Event.TheVariants.{Call, Next}
 use Rattle.p9_word.specs.declared.trail.Reply.{Reply}
-use Rattle.p9_word.specs.declared.trail.Reply.TheVariants.{Now, Waits, Ended, Begin, Turn, Idle, Over, Stuck, Stray}
+use Rattle.p9_word.specs.declared.trail.Reply.TheVariants.{Now, Waits, Ended, Begin, Turn, Caught, Died, Idle, Over, Stuck, Stray}
 use Rattle.p9_word.specs.declared.trail.Seat.{Seat}
 use Rattle.p9_word.specs.declared.trail.Seat.TheVariants.{Proc}
 use Rattle.p9_word.specs.declared.trail.Entry.{Entry}
@@ -38,10 +38,12 @@ IsLiving (Lives program arg answers) = Unit {0}
 IsLiving Unborn = ⊥
 IsLiving Dead = ⊥
 
--- the replies to a turn: only a new thread begins, with one of the programs, and only one that lives goes on
+-- the replies to a turn: only a new thread begins, with one of the programs, and only one that lives goes on; or a note is delivered
 abbrev pub IsNextReply : (ℕ → Life) → ℕ → Reply → Type 0
 IsNextReply lives programs (Begin t program arg) = (lives t ≡ Unborn) × (1 ≤ program) × (program ≤ programs)
 IsNextReply lives programs (Turn t a) = IsLiving (lives t)
+IsNextReply lives programs (Caught id) = Unit {0}
+IsNextReply lives programs (Died note) = Unit {0}
 IsNextReply lives programs Idle = Unit {0}
 IsNextReply lives programs Over = Unit {0}
 IsNextReply lives programs Stuck = Unit {0}

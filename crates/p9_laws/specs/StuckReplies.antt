@@ -11,6 +11,7 @@ use Rattle.p9_word.specs.declared.trail.Entry.{Entry}
 use Rattle.p9_word.specs.Setup.{IsValid}
 use Rattle.p9_manual.specs.declared.state.Thread.{Thread}
 use Rattle.p9_manual.specs.Places.{lives, stands_ready}
+use Rattle.p9_manual.specs.Sound.{AreNotesRead}
 use Rattle.p9_manual.specs.State.{State, by_id}
 use Rattle.p9_manual.specs.Stuck.{is_stuck}
 use Rattle.p9_manual.specs.Next.{is_place, is_over}
@@ -40,11 +41,12 @@ abbrev pub is_ready_thread : Option Thread → Bool
 is_ready_thread None = false
 is_ready_thread (Some thread) = stands_ready thread
 
--- the line has exactly the ready threads, and each thread stands in a proc that is open
+-- the line has exactly the ready threads, each thread stands in a proc that is open, and no note is pending where no thread lives
 pub record IsLined (setup : Setup) (s : State) : Type 0 where
   pub ready : (t : ℕ) → is_ready_thread (by_id s.threads t) ≡ list_any (λ u. u == t) s.line
   pub opened : s.opened ≤ setup.places
   pub procs : (t : ℕ) (thread : Thread) → by_id s.threads t ≡ Some thread → (1 ≤ thread.proc_no) × (thread.proc_no ≤ s.opened)
+  pub notes : AreNotesRead s.procs s.threads
 
 -- in a stuck state nothing makes an entry but Stuck
 abbrev pub StuckAlone : Setup → State → Type 0
@@ -62,7 +64,7 @@ StuckTold setup s = IsLined setup s → (p : ℕ) → IsStuckAt setup p s → (s
 abbrev pub UnstuckMoves : Setup → State → Type 0
 UnstuckMoves setup s = IsLined setup s → s.over ≡ false → list_any lives s.threads ≡ true → is_stuck s ≡ false → CanMove setup s
 
--- after each legal history the line has exactly the ready threads
+-- after each legal history of a valid setup that holds
 abbrev pub LinedAfter : Setup → List Entry → Type 0
 LinedAfter setup entries = IsValid setup → IsLegal setup entries → IsLined setup (state_after setup entries)
 

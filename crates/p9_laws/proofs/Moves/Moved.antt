@@ -16,7 +16,6 @@ use Rattle.p9_word.specs.declared.trail.Event.{Event}
 use Rattle.p9_word.specs.declared.trail.Event.TheVariants.{Call, Next, IoTake, IoDid}
 use Rattle.p9_word.specs.declared.trail.Seat.{Seat}
 use Rattle.p9_word.specs.declared.trail.Seat.TheVariants.{Proc, Io as IoSeat}
-use Rattle.p9_word.specs.declared.trail.Reply.TheVariants.{Stray}
 use Rattle.p9_manual.specs.declared.state.Ioproc.{Ioproc}
 use Rattle.p9_manual.specs.declared.state.Ioproc.TheVariants.{Unmade, Idle, Posted, Begun, Closed}
 use Rattle.p9_manual.specs.Offers.{Alternation, alternation, alternation_of}
@@ -26,15 +25,19 @@ use Rattle.p9_manual.specs.Chans.{on_channel, by_alternation, chan_call}
 use Rattle.p9_manual.specs.Effects.{fits, message_length}
 use Rattle.p9_manual.specs.Ioprocs.{make, post_call, close_ioproc, io_call, take_call, did_call, io_event}
 use Rattle.p9_manual.specs.Locks.{lock_call}
-use Rattle.p9_manual.specs.Next.{next_event, next_of, first_ready, turn, is_place, is_over, started}
+use Rattle.p9_manual.specs.Next.{next_event, next_of, first_ready, note_first, turn, is_place, is_over, started}
+use Rattle.p9_manual.specs.NoteCalls.{met_by, next_note, with_pending, with_proc}
+use Rattle.p9_manual.specs.Notes.{Delivery}
 use Rattle.p9_manual.specs.Places.{lives, runs_in, runs_there}
-use Rattle.p9_manual.specs.State.{Move, State, Outcome, by_id, same, bad}
-use Rattle.p9_manual.specs.Step.{step, outcome, called}
+use Rattle.p9_manual.specs.Signals.{signal_call}
+use Rattle.p9_manual.specs.State.{Move, State, Outcome, by_id, bad}
+use Rattle.p9_manual.specs.Step.{step, outcome, is_doomed}
 use Rattle.p9_manual.specs.Stuck.{is_stuck}
 use Rattle.p9_manual.specs.History.{after_entry}
 use Rattle.p9_laws.specs.Moves.{moves_from}
 use Rattle.p9_laws.proofs.Asked.{Does, Answers, ChangesCaller, ChangesAside, MakesThread, MakesProc, GivesWay, Ends, EndsAll}
-use Rattle.p9_laws.proofs.Groups.{Kind, Plain, OfChans, OfLocks, OfIoprocs, served_kind}
+use Rattle.p9_laws.proofs.AskedSignals.{DoesToSignals, Replies, Signals, SetsHandlers, Posts, signal_call_does}
+use Rattle.p9_laws.proofs.Groups.{Kind, Plain, OfSignals, OfChans, OfLocks, OfIoprocs, served_kind, CallOf, Strays, Dies, Serves, call_of}
 use Rattle.p9_laws.proofs.AskedLocks.{DoesToLocks, Says, Counts, Gets, GetsInTurn, WaitsFor, GivesUp, Sleeps, Meets, MovesFirst, MovesAll, lock_call_does}
 use Rattle.p9_laws.proofs.AskedChans.{DoesToChans, Tells, MakesChannel, FreesChannel, ClosesChannel, on_channel_does}
 
@@ -51,10 +54,14 @@ abbrev pub moved_in : Setup → ℕ → State → Option Alternation → List Mo
 moved_in setup t s None = []
 moved_in setup t s (Some a) = cond (fits_all s.chans a.entries) (moved_by (verdict_of setup t a s)) []
 
--- the value that leaves a channel by an event: only the call of a thread that runs there makes one leave
+-- the value that leaves a channel by a call of thread t in proc p: none where it doesn't run there, or ends instead
+abbrev pub moved_by_call : Setup → ℕ → ℕ → Request → State → List Move
+moved_by_call setup p t r s =
+    cond (not (runs_there p (by_id s.threads t))) [] (cond (is_doomed t r s) [] (moved_in setup t s (alternation_of r)))
+
+-- the value that leaves a channel by an event: only a call makes one leave
 abbrev pub moved_at : Setup → Seat → Event → State → List Move
-moved_at setup (Proc p) (Call t r) s =
-    cond (runs_there p (by_id s.threads t)) (moved_in setup t s (alternation_of r)) []
+moved_at setup (Proc p) (Call t r) s = moved_by_call setup p t r s
 moved_at setup (Proc p) Next s = []
 moved_at setup (Proc p) IoTake s = []
 moved_at setup (Proc p) (IoDid effect) s = []
@@ -71,7 +78,7 @@ if_none false o p f g = g
 asked_none : (setup : Setup) (t : ℕ) (s : State) (o : Outcome) → Does setup t s o → MovesNone o
 asked_none setup t s _ (Answers a) = refl
 asked_none setup t s _ (ChangesCaller f caller a at leaves grants) = refl
-asked_none setup t s _ (ChangesAside procs a grants) = refl
+asked_none setup t s _ (ChangesAside procs a grants same) = refl
 asked_none setup t s _ (MakesThread program arg caller at own) = refl
 asked_none setup t s _ (MakesProc program arg caller at own room) = refl
 asked_none setup t s _ GivesWay = refl
@@ -83,6 +90,12 @@ chans_none s _ (Tells a) = refl
 chans_none s _ (MakesChannel cap elsize) = refl
 chans_none s _ (FreesChannel c chan there) = refl
 chans_none s _ (ClosesChannel c chan there) = refl
+
+signals_none : (s : State) (o : Outcome) → DoesToSignals s o → MovesNone o
+signals_none s _ (Replies a) = refl
+signals_none s _ (Signals n m by) = refl
+signals_none s _ (SetsHandlers p handlers) = refl
+signals_none s _ (Posts p note m alive by) = refl
 
 locks_none : (setup : Setup) (t : ℕ) (s : State) (o : Outcome) → DoesToLocks setup t s o → MovesNone o
 locks_none setup t s _ (Says a) = refl
@@ -142,12 +155,20 @@ next_of_none s (Some found) = turn_none found.0 _ (option_map started (by_id s.t
     turn_none t s None = refl
     turn_none t s (Some start) = refl
 
+met_none : (p : ℕ) (note : List ℕ) (o : Option ℕ) (s : State) → MovesNone (met_by p note o s)
+met_none p note None s = refl
+met_none p note (Some id) s = refl
+
+note_first_none : (p : ℕ) (s : State) (o : Option Delivery) → MovesNone (note_first p s o)
+note_first_none p s None = next_of_none s (first_ready p s)
+note_first_none p s (Some d) = met_none p d.note d.caught_by (with_proc (with_pending d.pending) p s)
+
 next_event_none : (setup : Setup) (p : ℕ) (s : State) → MovesNone (next_event setup p s)
 unfolding next_event
 next_event_none setup p s =
     if_none (not (is_place setup p)) _ _ refl
     (if_none (is_over p s) _ _ refl
-    (if_none (list_any (runs_in p) s.threads) _ _ refl (next_of_none s (first_ready p s))))
+    (if_none (list_any (runs_in p) s.threads) _ _ refl (note_first_none p s (next_note p s))))
 
 -- what an outcome tells, as a list
 abbrev told_by : Outcome → List Move
@@ -174,13 +195,19 @@ by_alternation_moves setup t r s (Some a) =
 kind_moves : (setup : Setup) (t : ℕ) (s : State) (r : Request) (o : Outcome) → Kind setup t s r o → told_by o ≡ moved_in setup t s (alternation_of r)
 unfolding chan_call
 kind_moves setup t s _ _ (Plain r o no_alt does) = rw no_alt (nothing_told o (asked_none setup t s o does))
+kind_moves setup t s _ _ (OfSignals r) = nothing_told (signal_call t r s) (signals_none s _ (signal_call_does t r s))
 kind_moves setup t s _ _ (OfChans r) = by_alternation_moves setup t r s (alternation r)
 kind_moves setup t s _ _ (OfLocks r) = nothing_told (lock_call setup t r s) (lock_call_none setup t r s)
 kind_moves setup t s _ _ (OfIoprocs r) = nothing_told (io_call setup t r s) (io_call_none setup t r s)
 
+call_moves : (setup : Setup) (p t : ℕ) (r : Request) (s : State) (o : Outcome) → CallOf setup p t r s o → told_by o ≡ moved_by_call setup p t r s
+call_moves setup p t r s _ (Strays elsewhere) = rw elsewhere refl
+call_moves setup p t r s _ (Dies there doomed) = rw (there, doomed) refl
+call_moves setup p t r s _ (Serves there undoomed) = rw (there, undoomed) (kind_moves setup t s r _ (served_kind setup t r s))
+
 outcome_moves : (setup : Setup) (seat : Seat) (event : Event) (s : State) → told_by (outcome setup seat event s) ≡ moved_at setup seat event s
-unfolding outcome called
-outcome_moves setup (Proc p) (Call t r) s = if_moves (runs_there p (by_id s.threads t)) _ (same Stray s) _ (kind_moves setup t s r _ (served_kind setup t r s)) refl
+unfolding outcome
+outcome_moves setup (Proc p) (Call t r) s = call_moves setup p t r s _ (call_of setup p t r s)
 outcome_moves setup (Proc p) Next s = nothing_told (next_event setup p s) (next_event_none setup p s)
 outcome_moves setup (Proc p) IoTake s = refl
 outcome_moves setup (Proc p) (IoDid effect) s = refl

@@ -1,5 +1,5 @@
 -- Each step of a legal history keeps what is known of the values on channels, and so does the whole history.
-use Rattle.std.proofs.Common.{◌≡◌, ℕ, ◌+◌, Bool, true, false, cond, List, [], ◌∷◌, ◌++◌, length, Option, Some, None, refl, ap, subst, sym, ◌∙◌, arith, append_assoc, length-append}
+use Rattle.std.proofs.Common.{◌≡◌, ℕ, ◌+◌, true, eqb, List, [], ◌∷◌, ◌++◌, length, Option, Some, None, refl, ap, subst, sym, ◌∙◌, arith, append_assoc, length-append}
 use Rattle.std.specs.Prelude.{slice_get}
 use Rattle.std.specs.List.{fold}
 use Rattle.std.proofs.lemmas.List.{append-nil}
@@ -11,29 +11,30 @@ use Rattle.p9_word.specs.declared.trail.Entry.{Entry}
 use Rattle.p9_word.specs.declared.trail.Event.{Event}
 use Rattle.p9_word.specs.declared.trail.Event.TheVariants.{Call, Next, IoTake, IoDid}
 use Rattle.p9_word.specs.declared.trail.Reply.{Reply}
-use Rattle.p9_word.specs.declared.trail.Reply.TheVariants.{Stray, Waits}
+use Rattle.p9_word.specs.declared.trail.Reply.TheVariants.{Waits}
 use Rattle.p9_word.specs.declared.trail.Seat.{Seat}
 use Rattle.p9_word.specs.declared.trail.Seat.TheVariants.{Proc, Io as IoSeat}
 use Rattle.p9_manual.specs.Offers.{Alternation, alternation, alternation_of, parties}
 use Rattle.p9_manual.specs.ReadyEntries.{fits}
 use Rattle.p9_manual.specs.Alt.{Verdict, AllClosed, Commits, NoneReady, MustWait, decided, verdict_of, with_draw, alt}
-use Rattle.p9_manual.specs.Places.{runs_there}
+use Rattle.p9_manual.specs.Signals.{signal_call}
 use Rattle.p9_laws.specs.Senders.{entries_in}
 use Rattle.p9_manual.specs.Chans.{chan_call, by_alternation, on_channel}
 use Rattle.p9_manual.specs.Ioprocs.{io_call, io_event}
 use Rattle.p9_manual.specs.Locks.{lock_call}
 use Rattle.p9_manual.specs.Next.{next_event}
 use Rattle.p9_laws.specs.Moves.{moves_from}
-use Rattle.p9_laws.proofs.Moves.Moved.{moved_in, moved_at, moves-first}
+use Rattle.p9_laws.proofs.Moves.Moved.{moved_in, moved_by_call, moved_at, moves-first}
 use Rattle.p9_manual.specs.History.{after_entry, IsLegalFrom}
 use Rattle.p9_manual.specs.Sound.{IsSound}
-use Rattle.p9_manual.specs.State.{Move, State, Outcome, by_id, same}
-use Rattle.p9_manual.specs.Step.{served, called, outcome, step, counted, makes_entry}
-use Rattle.p9_laws.proofs.Groups.{Kind, Plain, OfChans, OfLocks, OfIoprocs, served_kind}
+use Rattle.p9_manual.specs.Ends.{ended}
+use Rattle.p9_manual.specs.State.{Move, State, Outcome}
+use Rattle.p9_manual.specs.Step.{outcome, step, counted, makes_entry}
+use Rattle.p9_laws.proofs.Groups.{Kind, Plain, OfSignals, OfChans, OfLocks, OfIoprocs, served_kind, CallOf, Strays, Dies, Serves, call_of}
 use Rattle.p9_laws.proofs.Moves.Sent.{Asks}
 use Rattle.p9_laws.proofs.Moves.Kept.{kept_later, kept_longer}
 use Rattle.p9_laws.proofs.Moves.Verdicts.{KeptIn, alt_kept}
-use Rattle.p9_laws.proofs.Moves.Requests.{Leaves, asked_leaves, on_channel_leaves, lock_call_leaves, io_call_leaves, io_event_leaves, next_event_leaves}
+use Rattle.p9_laws.proofs.Moves.Requests.{Leaves, asked_leaves, ended_leaves, signal_call_leaves, on_channel_leaves, lock_call_leaves, io_call_leaves, io_event_leaves, next_event_leaves}
 
 -- a call that asks for an alt, and is answered later
 pub asks_here : (H : List Entry) (at : ℕ) (seat : Seat) (t : ℕ) (r : Request) (reply : Reply) (a : Alternation) → slice_get H at ≡ Some (record { seat = seat; event = Call t r; reply = reply }) → reply ≡ Waits → alternation_of r ≡ Some a → Asks a.entries (slice_get H at)
@@ -63,6 +64,7 @@ by_alternation_kept setup H ms seat t r s (Some a) is here sound k =
 kind_kept : (setup : Setup) (H : List Entry) (ms : List Move) (seat : Seat) (t : ℕ) (s : State) (r : Request) (o : Outcome) → Kind setup t s r o → slice_get H s.position ≡ Some (record { seat = seat; event = Call t r; reply = o.reply }) → IsSound setup s → KeptIn H s.position ms s → KeptIn H (s.position + 1) (ms ++ moved_in setup t s (alternation_of r)) o.state
 unfolding chan_call
 kind_kept setup H ms seat t s _ _ (Plain r o no_alt does) here sound k = rw no_alt (nothing_moves H ms s o.state (asked_leaves setup t s o does) k)
+kind_kept setup H ms seat t s _ _ (OfSignals r) here sound k = nothing_moves H ms s (signal_call t r s).state (signal_call_leaves t r s) k
 kind_kept setup H ms seat t s _ _ (OfChans r) here sound k = by_alternation_kept setup H ms seat t r s (alternation r) refl here sound k
 kind_kept setup H ms seat t s _ _ (OfLocks r) here sound k = nothing_moves H ms s (lock_call setup t r s).state (lock_call_leaves setup t r s) k
 kind_kept setup H ms seat t s _ _ (OfIoprocs r) here sound k = nothing_moves H ms s (io_call setup t r s).state (io_call_leaves setup t r s) k
@@ -71,18 +73,18 @@ kind_kept setup H ms seat t s _ _ (OfIoprocs r) here sound k = nothing_moves H m
 abbrev pub IsHere : List Entry → ℕ → Seat → Event → Outcome → Type 0
 IsHere H at seat event o = slice_get H at ≡ Some (record { seat = seat; event = event; reply = o.reply })
 
-if_runs : (H : List Entry) (ms moved : List Move) (seat : Seat) (event : Event) (s : State) (b : Bool) (o p : Outcome) → IsHere H s.position seat event (cond b o p) → (IsHere H s.position seat event o → KeptIn H (s.position + 1) (ms ++ moved) o.state) → KeptIn H (s.position + 1) (ms ++ []) p.state → KeptIn H (s.position + 1) (ms ++ cond b moved []) (cond b o p).state
-if_runs H ms moved seat event s true o p here f g = f here
-if_runs H ms moved seat event s false o p here f g = g
-
 stays : (H : List Entry) (ms : List Move) (s : State) → KeptIn H s.position ms s → KeptIn H (s.position + 1) (ms ++ []) s
 stays H ms s k = nothing_moves H ms s s (λ H n ms h. h) k
 
+-- a call: its thread runs there and goes on, or nothing moves
+call_kept : (setup : Setup) (H : List Entry) (ms : List Move) (p t : ℕ) (r : Request) (s : State) (o : Outcome) → CallOf setup p t r s o → IsHere H s.position (Proc p) (Call t r) o → IsSound setup s → KeptIn H s.position ms s → KeptIn H (s.position + 1) (ms ++ moved_by_call setup p t r s) o.state
+call_kept setup H ms p t r s _ (Strays elsewhere) here sound k = rw elsewhere (stays H ms s k)
+call_kept setup H ms p t r s _ (Dies there doomed) here sound k = rw (there, doomed) (nothing_moves H ms s (ended t s) (ended_leaves (λ u. eqb u t) s) k)
+call_kept setup H ms p t r s _ (Serves there undoomed) here sound k = rw (there, undoomed) (kind_kept setup H ms (Proc p) t s r _ (served_kind setup t r s) here sound k)
+
 outcome_kept : (setup : Setup) (H : List Entry) (ms : List Move) (seat : Seat) (event : Event) (s : State) → IsHere H s.position seat event (outcome setup seat event s) → IsSound setup s → KeptIn H s.position ms s → KeptIn H (s.position + 1) (ms ++ moved_at setup seat event s) (outcome setup seat event s).state
-unfolding outcome called
-outcome_kept setup H ms (Proc p) (Call t r) s here sound k =
-    if_runs H ms (moved_in setup t s (alternation_of r)) (Proc p) (Call t r) s (runs_there p (by_id s.threads t)) (served setup t r s) (same Stray s) here
-    (λ h. kind_kept setup H ms (Proc p) t s r _ (served_kind setup t r s) h sound k) (stays H ms s k)
+unfolding outcome
+outcome_kept setup H ms (Proc p) (Call t r) s here sound k = call_kept setup H ms p t r s _ (call_of setup p t r s) here sound k
 outcome_kept setup H ms (Proc p) Next s here sound k = nothing_moves H ms s (next_event setup p s).state (next_event_leaves setup p s) k
 outcome_kept setup H ms (Proc p) IoTake s here sound k = stays H ms s k
 outcome_kept setup H ms (Proc p) (IoDid effect) s here sound k = stays H ms s k

@@ -1,8 +1,9 @@
 -- What each event keeps true of a state, after values have moved and threads were told receipts: each receipt that a thread
 -- is about to be told is of a value that moved by its last call; and whoever is about to be told that it sent a value sent
 -- one by the entry of its last call that is told.
-use Rattle.std.proofs.Common.{◌≡◌, inl, inr, ℕ, ◌+◌, ◌-◌, ◌≤◌, not, eqb, List, [], ◌∷◌, ◌++◌, map, Option, Some, refl, sym, subst, arith, append-nil}
+use Rattle.std.proofs.Common.{◌≡◌, inl, inr, ℕ, ◌+◌, ◌-◌, ◌≤◌, not, eqb, List, [], ◌∷◌, ◌++◌, Option, Some, refl, sym, subst, arith, append-nil}
 use Rattle.std.specs.Prelude.{All, slice_get}
+use Rattle.std.specs.List.{filter}
 use Rattle.std.proofs.lemmas.List.Elements.{All-nil, All-weaker, All-filter, All-push}
 use Rattle.p9_manual.specs.declared.state.Place.{Place}
 use Rattle.p9_manual.specs.declared.state.Place.TheVariants.{New, Ended}
@@ -11,15 +12,15 @@ use Rattle.p9_manual.specs.declared.state.Waiter.{Waiter}
 use Rattle.p9_manual.specs.declared.state.Channel.{Channel}
 use Rattle.p9_laws.specs.Moves.{times_moved}
 use Rattle.p9_laws.specs.Receipts.{Receipt, IsReceived}
-use Rattle.p9_manual.specs.Ends.{at_end}
-use Rattle.p9_manual.specs.State.{Move, by_id, changed, placed, waits_without}
+use Rattle.p9_manual.specs.Ends.{Gone, ended_if}
+use Rattle.p9_manual.specs.State.{Move, by_id, changed, each_from, placed, waits_without}
 use Rattle.p9_word.specs.declared.trail.Entry.{Entry}
 use Rattle.p9_laws.specs.Senders.{IsSendBy}
 use Rattle.p9_laws.proofs.Moves.Sent.{slice_get-longer}
 use Rattle.p9_laws.proofs.Received.Grows.{IsThere, Grows, there_more}
 use Rattle.p9_manual.specs.Standing.{place_of}
 use Rattle.p9_laws.proofs.Sound.Counts.{times-append}
-use Rattle.p9_laws.proofs.Received.Places.{due, says_sent, IsQuiet, told, dues, dues-changed, dues-left, dues-push, dues_ended, place_moved, place_left, place_pushed, place_ended}
+use Rattle.p9_laws.proofs.Received.Places.{due, says_sent, IsQuiet, told, dues, dues-changed, dues-left, dues-push, dues-ended, place_moved, place_left, place_pushed, place_ended}
 
 -- entry n of a thread's last call sends a value, which has left its channel or is among that channel's elements
 pub record IsHeld (H : List Entry) (last : Option ℕ) (n : ℕ) (ms : List Move) (chans : List Channel) : Type 0 where
@@ -126,13 +127,16 @@ module _ {H : List Entry} {ms : List Move} {rs : List Receipt} {last : ℕ → O
         calls = a.calls;
       }
 
-  -- all threads have ended, and nobody waits
-  pub all_gone : Agrees H ms rs last (map at_end threads) [] chans
-  all_gone =
+  -- these threads have ended, and wait no more
+  pub some_gone : (ends : Gone) → Agrees H ms rs last (each_from (ended_if ends) 1 threads) (filter (λ w. not (ends w.tid)) waits) chans
+  some_gone ends =
       record {
-        counts = λ p. let c = a.counts p in let d = dues_ended p threads in omega (arith, c, d);
-        right = λ u. right_at H ms chans (last u) u Ended _ (place_ended threads u) (right_quiet H ms chans (last u) u Ended (record { nothing = λ t. refl; unsent = refl }));
-        calls = All-nil (IsCaller last);
+        counts = λ p. let c = a.counts p in let d = dues-ended p ends 1 threads in omega (arith, c, d);
+        right = λ u. elim (place_ended ends threads u) [
+          | inl e ↦ right_at H ms chans (last u) u (place_of threads u) _ e (a.right u)
+          | inr e ↦ right_at H ms chans (last u) u Ended _ e (right_quiet H ms chans (last u) u Ended (record { nothing = λ t. refl; unsent = refl }))
+        ];
+        calls = All-filter (λ w. not (ends w.tid)) (IsCaller last) waits a.calls;
       }
 
   -- a thread waits no more

@@ -1,5 +1,5 @@
 -- What threads that stand ready are about to be told, and where threads are after one was put somewhere.
-use Rattle.std.proofs.Common.{◌≡◌, ◌⊎◌, inl, inr, ℕ, zero, suc, ◌+◌, ◌-◌, ◌≤◌, eqb, List, [], ◌∷◌, ◌++◌, map, Option, Some, None, refl, ap, arith}
+use Rattle.std.proofs.Common.{◌≡◌, ◌⊎◌, inl, inr, ℕ, zero, suc, ◌+◌, ◌-◌, ◌≤◌, Bool, true, false, cond, eqb, List, [], ◌∷◌, ◌++◌, Option, Some, None, refl, ap, arith}
 use Rattle.std.specs.Prelude.{slice_get}
 use Rattle.p9_word.specs.declared.answer.Answer.{Answer}
 use Rattle.p9_word.specs.declared.answer.Answer.TheVariants.{Got, Index}
@@ -8,8 +8,8 @@ use Rattle.p9_manual.specs.declared.state.Place.TheVariants.{Running, New, Ready
 use Rattle.p9_manual.specs.declared.state.Thread.{Thread}
 use Rattle.p9_laws.specs.Receipts.{Receipt, received_by}
 use Rattle.p9_laws.specs.ToldSent.{sent_number}
-use Rattle.p9_manual.specs.Ends.{at_end}
-use Rattle.p9_manual.specs.State.{changed, placed, at_place}
+use Rattle.p9_manual.specs.Ends.{Gone, at_end, ended_if}
+use Rattle.p9_manual.specs.State.{changed, each_from, placed, at_place}
 use Rattle.p9_manual.specs.Standing.{times, place_of, place_in}
 use Rattle.p9_laws.proofs.Sound.Places.{by_id-suc}
 
@@ -76,9 +76,13 @@ pub dues-push : (p : ℕ) (y : Thread) → y.place ≡ New → (threads : List T
 dues-push p y h [] = rw h refl
 dues-push p y h (x ∷ xs) = rw (dues-push p y h xs) refl
 
-pub dues_ended : (p : ℕ) → (threads : List Thread) → dues p (map at_end threads) ≡ 0
-dues_ended p [] = refl
-dues_ended p (x ∷ xs) = rw (dues_ended p xs) refl
+one_ended : (p : ℕ) (b : Bool) (x : Thread) → told p (due 0 (cond b (at_end x) x).place) ≤ told p (due 0 x.place)
+one_ended p true x = omega arith
+one_ended p false x = omega arith
+
+pub dues-ended : (p : ℕ) (ends : Gone) → (n : ℕ) (threads : List Thread) → dues p (each_from (ended_if ends) n threads) ≤ dues p threads
+dues-ended p ends n [] = omega arith
+dues-ended p ends n (x ∷ xs) = let here = one_ended p (ends n) x in let rest = dues-ended p ends (suc n) xs in omega (arith, here, rest)
 
 -- what becomes of a place where a thread was put somewhere
 abbrev pub IsMoved : ℕ → ℕ → Place → Place → Place → Type 0
@@ -124,12 +128,16 @@ pub place_pushed : (y : Thread) (threads : List Thread) (u : ℕ) → (place_of 
 place_pushed y threads zero = inl refl
 place_pushed y threads (suc j) = rw (by_id-suc (threads ++ y ∷ []) j, by_id-suc threads j) (place_pushed_at y threads j)
 
-place_ended_at : (threads : List Thread) (j : ℕ) → place_in (slice_get (map at_end threads) j) ≡ Ended
-place_ended_at [] j = refl
-place_ended_at (x ∷ xs) zero = refl
-place_ended_at (x ∷ xs) (suc j) = place_ended_at xs j
+place_of_one : (b : Bool) (x : Thread) → ((cond b (at_end x) x).place ≡ x.place) ⊎ ((cond b (at_end x) x).place ≡ Ended)
+place_of_one true x = inr refl
+place_of_one false x = inl refl
 
--- all threads have ended
-pub place_ended : (threads : List Thread) (u : ℕ) → place_of (map at_end threads) u ≡ Ended
-place_ended threads zero = refl
-place_ended threads (suc j) = rw (by_id-suc (map at_end threads) j) (place_ended_at threads j)
+place_ended_at : (ends : Gone) (n : ℕ) (threads : List Thread) (j : ℕ) → (place_in (slice_get (each_from (ended_if ends) n threads) j) ≡ place_in (slice_get threads j)) ⊎ (place_in (slice_get (each_from (ended_if ends) n threads) j) ≡ Ended)
+place_ended_at ends n [] j = inl refl
+place_ended_at ends n (x ∷ xs) zero = place_of_one (ends n) x
+place_ended_at ends n (x ∷ xs) (suc j) = place_ended_at ends (suc n) xs j
+
+-- these threads have ended
+pub place_ended : (ends : Gone) (threads : List Thread) (u : ℕ) → (place_of (each_from (ended_if ends) 1 threads) u ≡ place_of threads u) ⊎ (place_of (each_from (ended_if ends) 1 threads) u ≡ Ended)
+place_ended ends threads zero = inl refl
+place_ended ends threads (suc j) = rw (by_id-suc (each_from (ended_if ends) 1 threads) j, by_id-suc threads j) (place_ended_at ends 1 threads j)

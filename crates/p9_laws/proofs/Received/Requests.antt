@@ -1,29 +1,37 @@
 -- The requests that move no value.
-use Rattle.std.proofs.Common.{◌≡◌, ℕ, ◌+◌, ◌-◌, ◌≤◌, Bool, true, false, ltb, List, [], ◌∷◌, ◌++◌, length, Option, Some, None, refl, ap, sym, subst, ◌∙◌}
+use Rattle.std.proofs.Common.{◌≡◌, ℕ, ◌+◌, ◌-◌, ◌≤◌, Bool, true, false, cond, eqb, ltb, List, [], ◌∷◌, ◌++◌, length, Option, Some, None, refl, ap, sym, subst, ◌∙◌}
 use Rattle.std.specs.Prelude.{map}
 use Rattle.std.specs.List.{filter}
 use Rattle.p9_manual.specs.declared.state.Party.{Party}
 use Rattle.p9_word.specs.declared.answer.Answer.{Answer}
-use Rattle.p9_word.specs.declared.answer.Answer.TheVariants.{Done, Met, Number}
+use Rattle.p9_word.specs.declared.answer.Answer.TheVariants.{Done, Interrupted, Met, Number}
 use Rattle.p9_word.specs.declared.request.Request.TheVariants.{Io as IoRequest, Lock as LockRequest}
 use Rattle.p9_word.specs.declared.request.ChanReq.{ChanReq}
 use Rattle.p9_word.specs.declared.request.IoReq.{IoReq}
 use Rattle.p9_word.specs.declared.request.LockReq.{LockReq}
+use Rattle.p9_word.specs.declared.request.SignalReq.{SignalReq}
 use Rattle.p9_word.specs.declared.request.LockReq.TheVariants.{RSleep}
 use Rattle.p9_word.specs.declared.request.IoReq.TheVariants.{IoProc, IoRun, CloseIoProc}
 use Rattle.p9_word.specs.declared.io_call.IoCall.{IoCall}
 use Rattle.p9_word.specs.declared.setup.Setup.{Setup}
 use Rattle.p9_word.specs.declared.trail.Entry.{Entry}
-use Rattle.p9_manual.specs.declared.state.Place.TheVariants.{Ready, Ended}
+use Rattle.p9_word.specs.declared.trail.Reply.TheVariants.{Ended as EndedReply}
+use Rattle.p9_manual.specs.declared.state.Thread.{Thread}
+use Rattle.p9_manual.specs.declared.state.Place.TheVariants.{Ready}
 use Rattle.p9_manual.specs.declared.state.Channel.{Channel}
 use Rattle.p9_manual.specs.declared.state.Waiter.{Waiter}
 use Rattle.p9_manual.specs.declared.state.Ioproc.{Ioproc}
 use Rattle.p9_manual.specs.declared.state.Ioproc.TheVariants.{Unmade, Idle, Posted, Begun, Closed as ClosedIoproc}
 use Rattle.p9_laws.specs.Receipts.{Receipt}
 use Rattle.p9_manual.specs.Effects.{message_length}
+use Rattle.p9_manual.specs.Ends.{Gone, ended, ended_where}
 use Rattle.p9_manual.specs.Rendez.{sleep}
 use Rattle.p9_manual.specs.RendezCalls.{for_qlock, qlock_of}
-use Rattle.p9_manual.specs.State.{Move, State, Outcome, by_id, changed, now, wake, waiting}
+use Rattle.p9_manual.specs.Interrupt.{doomed, marked, with_mark}
+use Rattle.p9_manual.specs.NoteCalls.{with_note, with_proc}
+use Rattle.p9_manual.specs.Places.{lives}
+use Rattle.p9_manual.specs.Signals.{signal_call}
+use Rattle.p9_manual.specs.State.{Move, State, Outcome, by_id, changed, now, replied, wake, waiting}
 use Rattle.p9_manual.specs.Offers.{parties}
 use Rattle.p9_manual.specs.AltEntries.{is_on, waits_on, first_number}
 use Rattle.p9_manual.specs.Told.{failed_answer}
@@ -38,17 +46,26 @@ use Rattle.p9_manual.specs.Unlocks.{Grant, release}
 use Rattle.p9_laws.proofs.AskedLocks.{DoesToLocks, Says, Counts, Gets, GetsInTurn, WaitsFor, GivesUp, Sleeps, Meets, MovesFirst, MovesAll, lock_call_does}
 use Rattle.p9_laws.proofs.LocksLeave.{first_moved_holds, all_moved_holds}
 use Rattle.p9_laws.proofs.AskedChans.{DoesToChans, Tells, MakesChannel, FreesChannel, ClosesChannel, on_channel_does}
+use Rattle.p9_laws.proofs.AskedSignals.{Signalled, Unchanged, Wakes, Marks, DoesToSignals, Replies, Signals, SetsHandlers, Posts, signal_call_does}
 use Rattle.p9_laws.proofs.Asked.{Does, Answers, ChangesCaller, ChangesAside, MakesThread, MakesProc, GivesWay, Ends, EndsAll}
 use Rattle.p9_laws.proofs.Received.Places.{IsQuiet}
-use Rattle.p9_laws.proofs.Received.Agrees.{Agrees, IsCaller, put_quietly, left_there, one_more, all_gone, fewer_waits, other_chans, other_waits}
+use Rattle.p9_laws.proofs.Received.Agrees.{Agrees, IsCaller, put_quietly, left_there, one_more, some_gone, fewer_waits, other_chans, other_waits}
 use Rattle.p9_laws.proofs.Received.Grows.{Grows, grows_same, grows_push, grows_changed}
 use Rattle.p9_laws.proofs.Received.Outcomes.{Stays, if_stays, now_stays, bad_stays, done_stays, waiting_stays}
+
+-- these threads have ended
+pub ended_agrees : (H : List Entry) (ms : List Move) (rs : List Receipt) (last : ℕ → Option ℕ) (ends : Gone) (s : State) → Agrees H ms rs last s.threads s.waits s.chans → Agrees H ms rs last (ended_where ends s).threads (ended_where ends s).waits (ended_where ends s).chans
+ended_agrees H ms rs last ends s a = some_gone a ends
+
+-- the caller has ended
+pub ended_stays : (t : ℕ) (s : State) → Stays t s (replied EndedReply (ended t s))
+ended_stays t s = record { silent = refl; grows = grows_same [] s.chans; agrees = λ H ms rs last e a. some_gone a (λ u. eqb u t) }
 
 pub asked_stays : (setup : Setup) (t : ℕ) (s : State) (o : Outcome) → Does setup t s o → Stays t s o
 asked_stays setup t s _ (Answers x) = now_stays t s x
 asked_stays setup t s _ (ChangesCaller f caller x at leaves grants) =
     record { silent = refl; grows = grows_same [] s.chans; agrees = λ H ms rs last e a. left_there a f leaves.place (t - 1) }
-asked_stays setup t s _ (ChangesAside procs x grants) = record { silent = refl; grows = grows_same [] s.chans; agrees = λ H ms rs last e a. a }
+asked_stays setup t s _ (ChangesAside procs x grants same) = record { silent = refl; grows = grows_same [] s.chans; agrees = λ H ms rs last e a. a }
 asked_stays setup t s _ (MakesThread program arg caller at own) =
     record { silent = refl; grows = grows_same [] s.chans; agrees = λ H ms rs last e a. one_more a (fresh caller.proc_no program arg caller.group) refl }
 asked_stays setup t s _ (MakesProc program arg caller at own room) =
@@ -58,13 +75,49 @@ asked_stays setup t s _ (MakesProc program arg caller at own room) =
       agrees = λ H ms rs last e a. put_quietly (one_more a (fresh (s.opened + 1) program arg caller.group) refl) t (Ready (Number (length s.threads + 1))) (record { nothing = λ u. refl; unsent = refl });
     }
 asked_stays setup t s _ GivesWay = done_stays t s Done (record { nothing = λ u. refl; unsent = refl })
-asked_stays setup t s _ Ends =
-    record { silent = refl; grows = grows_same [] s.chans; agrees = λ H ms rs last e a. fewer_waits (put_quietly a t Ended (record { nothing = λ u. refl; unsent = refl })) t }
-asked_stays setup t s _ EndsAll = record { silent = refl; grows = grows_same [] s.chans; agrees = λ H ms rs last e a. all_gone a }
+asked_stays setup t s _ Ends = ended_stays t s
+asked_stays setup t s _ EndsAll = record { silent = refl; grows = grows_same [] s.chans; agrees = λ H ms rs last e a. some_gone a (λ u. true) }
 
 -- a thread that waits is woken, and told nothing of a value
 woken_agrees : (H : List Entry) (ms : List Move) (rs : List Receipt) (last : ℕ → Option ℕ) (t : ℕ) (x : Answer) (s : State) → IsQuiet (Ready x) → Agrees H ms rs last s.threads s.waits s.chans → Agrees H ms rs last (wake t x s).threads (wake t x s).waits (wake t x s).chans
 woken_agrees H ms rs last t x s quiet a = fewer_waits (put_quietly a t (Ready x) quiet) t
+
+place_doomed : (x : Thread) → (doomed x).place ≡ x.place
+place_doomed x = left_by (lives x) x
+  where
+    left_by : (b : Bool) (x : Thread) → (cond b (with_mark x) x).place ≡ x.place
+    left_by true x = refl
+    left_by false x = refl
+
+signalled_agrees : (H : List Entry) (ms : List Move) (rs : List Receipt) (last : ℕ → Option ℕ) (m s : State) → Signalled m s → Agrees H ms rs last s.threads s.waits s.chans → Agrees H ms rs last m.threads m.waits m.chans
+signalled_agrees H ms rs last m _ Unchanged a = a
+signalled_agrees H ms rs last m s (Wakes u _ waits by) a =
+    signalled_agrees H ms rs last m (wake u Interrupted s) by (woken_agrees H ms rs last u Interrupted s (record { nothing = λ v. refl; unsent = refl }) a)
+signalled_agrees H ms rs last m s (Marks u _ by) a = signalled_agrees H ms rs last m (marked u s) by (left_there a doomed place_doomed (u - 1))
+
+-- who is interrupted or killed leaves the channels
+signalled_chans : (m s : State) → Signalled m s → m.chans ≡ s.chans
+signalled_chans m _ Unchanged = refl
+signalled_chans m s (Wakes u _ waits by) = signalled_chans m (wake u Interrupted s) by
+signalled_chans m s (Marks u _ by) = signalled_chans m (marked u s) by
+
+signalled_stays : (t : ℕ) (x : Answer) (m s : State) → Signalled m s → Stays t s (now x m)
+signalled_stays t x m s by =
+    record {
+      silent = refl;
+      grows = subst (λ (chans : List Channel). Grows [] s.chans chans) (sym (signalled_chans m s by)) (grows_same [] s.chans);
+      agrees = λ H ms rs last e a. signalled_agrees H ms rs last m s by a;
+    }
+
+signals_stay : (t : ℕ) (s : State) (o : Outcome) → DoesToSignals s o → Stays t s o
+signals_stay t s _ (Replies x) = now_stays t s x
+signals_stay t s _ (Signals n m by) = signalled_stays t (Number n) m s by
+signals_stay t s _ (SetsHandlers p handlers) = record { silent = refl; grows = grows_same [] s.chans; agrees = λ H ms rs last e a. a }
+signals_stay t s _ (Posts p note m alive by) =
+    let k = signalled_stays t Done m (with_proc (with_note note) p s) by in record { silent = k.silent; grows = k.grows; agrees = k.agrees }
+
+pub signal_call_stays : (t : ℕ) (r : SignalReq) (s : State) → Stays t s (signal_call t r s)
+signal_call_stays t r s = signals_stay t s _ (signal_call_does t r s)
 
 granted_agrees : (H : List Entry) (ms : List Move) (rs : List Receipt) (last : ℕ → Option ℕ) → (ts : List ℕ) (s : State) → Agrees H ms rs last s.threads s.waits s.chans → Agrees H ms rs last (all_granted ts s).threads (all_granted ts s).waits (all_granted ts s).chans
 granted_agrees H ms rs last [] s a = a

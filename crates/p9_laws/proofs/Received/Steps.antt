@@ -3,7 +3,7 @@ use Rattle.std.proofs.Common.{◌≡◌, ℕ, zero, suc, ◌+◌, ◌≤◌, Boo
 use Rattle.std.specs.List.{AllByRecursion}
 use Rattle.std.proofs.lemmas.List.Elements.{All-from_recursion, recursion_from_All}
 use Rattle.p9_word.specs.declared.request.Request.{Request}
-use Rattle.p9_word.specs.declared.request.Request.TheVariants.{Chan as ChanRequest, Lock as LockRequest, Io as IoRequest}
+use Rattle.p9_word.specs.declared.request.Request.TheVariants.{Signal as SignalRequest, Chan as ChanRequest, Lock as LockRequest, Io as IoRequest}
 use Rattle.p9_word.specs.declared.request.ChanReq.{ChanReq}
 use Rattle.p9_word.specs.declared.setup.Setup.{Setup}
 use Rattle.p9_word.specs.declared.trail.Entry.{Entry}
@@ -21,18 +21,18 @@ use Rattle.p9_manual.specs.Places.{runs_there}
 use Rattle.p9_manual.specs.Offers.{Alternation, alternation, alternation_of}
 use Rattle.p9_manual.specs.Chans.{by_alternation, chan_call}
 use Rattle.p9_laws.specs.Receipts.{Receipt}
-use Rattle.p9_laws.proofs.Moves.Moved.{moved_in, moved_at}
+use Rattle.p9_laws.proofs.Moves.Moved.{moved_in, moved_by_call, moved_at}
 use Rattle.p9_manual.specs.Sound.{IsSound}
 use Rattle.p9_manual.specs.Standing.{times, place_of, times_in_waits}
 use Rattle.p9_manual.specs.State.{Move, State, Outcome, by_id}
-use Rattle.p9_manual.specs.Step.{makes_entry, called, outcome, step, counted}
+use Rattle.p9_manual.specs.Step.{makes_entry, outcome, step, counted}
 use Rattle.p9_laws.proofs.Sound.Running.{place_runs}
-use Rattle.p9_laws.proofs.Groups.{Kind, Plain, OfChans, OfLocks, OfIoprocs, served_kind}
+use Rattle.p9_laws.proofs.Groups.{Kind, Plain, OfSignals, OfChans, OfLocks, OfIoprocs, served_kind, CallOf, Strays, Dies, Serves, call_of}
 use Rattle.p9_laws.proofs.Received.Agrees.{Agrees, IsCaller, IsRight, right_at, right_quiet}
 use Rattle.p9_laws.proofs.Received.Grows.{grows_same}
 use Rattle.p9_laws.proofs.Received.Outcomes.{Keeps, stays_keeps}
 use Rattle.p9_laws.proofs.Received.Alts.{alt_keeps}
-use Rattle.p9_laws.proofs.Received.Requests.{asked_stays, io_call_stays, lock_call_stays, on_channel_stays}
+use Rattle.p9_laws.proofs.Received.Requests.{asked_stays, ended_stays, signal_call_stays, io_call_stays, lock_call_stays, on_channel_stays}
 use Rattle.p9_laws.proofs.Received.Turns.{GoesRight, stray_right, silent_nothing, silent_no_turn, next_right, io_take_right, io_did_right}
 
 by_alternation_keeps : (setup : Setup) (t : ℕ) (r : ChanReq) (s : State) (o : Option Alternation) → alternation r ≡ o → 1 ≤ t → Keeps t (ChanRequest r) s (moved_in setup t s o) (by_alternation setup t r s o)
@@ -45,6 +45,7 @@ chan_call_keeps setup t r s made = by_alternation_keeps setup t r s (alternation
 
 kind_keeps : (setup : Setup) (t : ℕ) (s : State) (r : Request) (o : Outcome) → Kind setup t s r o → 1 ≤ t → Keeps t r s (moved_in setup t s (alternation_of r)) o
 kind_keeps setup t s _ _ (Plain r o no_alt does) made = rw no_alt (stays_keeps t r s o (asked_stays setup t s o does))
+kind_keeps setup t s _ _ (OfSignals r) made = stays_keeps t (SignalRequest r) s _ (signal_call_stays t r s)
 kind_keeps setup t s _ _ (OfChans r) made = chan_call_keeps setup t r s made
 kind_keeps setup t s _ _ (OfLocks r) made = stays_keeps t (LockRequest r) s _ (lock_call_stays setup t r s made)
 kind_keeps setup t s _ _ (OfIoprocs r) made = stays_keeps t (IoRequest r) s _ (io_call_stays setup t r s made)
@@ -103,20 +104,15 @@ call_right setup p t r s mv o sound h k =
       turns = λ u a e. absurd (silent_no_turn o.reply u a k.silent e);
     }
 
-if_called : (s : State) (event : Event) (b : Bool) (mv : List Move) (o p : Outcome) → (b ≡ true → GoesRight s event mv o) → GoesRight s event [] p → GoesRight s event (cond b mv []) (cond b o p)
-if_called s event true mv o p f g = f refl
-if_called s event false mv o p f g = g
-
-called_right : (setup : Setup) (p t : ℕ) (r : Request) (s : State) → IsSound setup s → GoesRight s (Call t r) (cond (runs_there p (by_id s.threads t)) (moved_in setup t s (alternation_of r)) []) (called setup p t r s)
-unfolding called
-called_right setup p t r s sound =
-    if_called s (Call t r) (runs_there p (by_id s.threads t)) (moved_in setup t s (alternation_of r)) _ _
-    (λ h. call_right setup p t r s _ _ sound h (kind_keeps setup t s r _ (served_kind setup t r s) (no_thread_runs p s.threads t h)))
-    (stray_right s (Call t r) Stray refl)
+call_of_right : (setup : Setup) (p t : ℕ) (r : Request) (s : State) (o : Outcome) → IsSound setup s → CallOf setup p t r s o → GoesRight s (Call t r) (moved_by_call setup p t r s) o
+call_of_right setup p t r s _ sound (Strays elsewhere) = rw elsewhere (stray_right s (Call t r) Stray refl)
+call_of_right setup p t r s _ sound (Dies there doomed) = rw (there, doomed) (call_right setup p t r s [] _ sound there (stays_keeps t r s _ (ended_stays t s)))
+call_of_right setup p t r s _ sound (Serves there undoomed) =
+    rw (there, undoomed) (call_right setup p t r s _ _ sound there (kind_keeps setup t s r _ (served_kind setup t r s) (no_thread_runs p s.threads t there)))
 
 outcome_right : (setup : Setup) (seat : Seat) (event : Event) (s : State) → IsSound setup s → GoesRight s event (moved_at setup seat event s) (outcome setup seat event s)
 unfolding outcome
-outcome_right setup (Proc p) (Call t r) s sound = called_right setup p t r s sound
+outcome_right setup (Proc p) (Call t r) s sound = call_of_right setup p t r s _ sound (call_of setup p t r s)
 outcome_right setup (Proc p) Next s sound = next_right setup p s
 outcome_right setup (Proc p) IoTake s sound = stray_right s IoTake Stray refl
 outcome_right setup (Proc p) (IoDid effect) s sound = stray_right s (IoDid effect) Stray refl

@@ -18,12 +18,14 @@ use Rattle.p9_manual.specs.declared.state.Place.TheVariants.{Running, New, Ready
 use Rattle.p9_manual.specs.declared.state.Thread.{Thread}
 use Rattle.p9_manual.specs.declared.state.Ioproc.{Ioproc}
 use Rattle.p9_manual.specs.declared.state.Ioproc.TheVariants.{Unmade, Idle, Posted, Begun, Closed}
-use Rattle.p9_manual.specs.Places.{lives, runs_in}
+use Rattle.p9_manual.specs.NoteCalls.{met_by, next_note, with_pending, with_proc}
+use Rattle.p9_manual.specs.Notes.{Delivery}
+use Rattle.p9_manual.specs.Places.{is_of, lives, runs_in}
 use Rattle.p9_laws.specs.Receipts.{Receipt, received_at, received_by}
 use Rattle.p9_laws.specs.LastCall.{call_position}
 use Rattle.p9_manual.specs.Effects.{fits}
 use Rattle.p9_manual.specs.Ioprocs.{with_ioproc, take_call, did_call, answered, effect_answer, io_event}
-use Rattle.p9_manual.specs.Next.{is_place, is_over, turn_reply, started, turn, first_ready, next_of, next_event}
+use Rattle.p9_manual.specs.Next.{is_place, is_over, turn_reply, started, turn, first_ready, next_of, note_first, next_event}
 use Rattle.p9_manual.specs.Stuck.{is_stuck}
 use Rattle.p9_manual.specs.State.{Move, State, Outcome, by_id, placed, same}
 use Rattle.p9_manual.specs.Step.{makes_entry}
@@ -33,6 +35,7 @@ use Rattle.p9_laws.proofs.Received.Places.{told_due, dues-put}
 use Rattle.p9_laws.proofs.Received.Agrees.{Agrees, put_quietly, fewer_waits}
 use Rattle.p9_laws.proofs.Received.Grows.{Grows, grows_same}
 use Rattle.p9_laws.proofs.Received.Outcomes.{is_turn, AreAsked}
+use Rattle.p9_laws.proofs.Received.Requests.{ended_agrees}
 use Rattle.p9_laws.proofs.Moves.Steps.{IsHere}
 
 -- what an event owes, where these values move by it: what holds goes on, with the receipts that its reply tells, and a thread
@@ -129,6 +132,16 @@ next_of_right s None =
     (stray_right s Next IdleReply refl)
 next_of_right s (Some found) = turn_right s found.1 found.0 (by_id s.threads found.0) refl
 
+met_right : (p : ℕ) (note : List ℕ) (pending : List (List ℕ)) (s : State) (o : Option ℕ) → GoesRight s Next [] (met_by p note o (with_proc (with_pending pending) p s))
+met_right p note pending s (Some id) = quiet_right s Next _ refl refl (λ H ms rs last a. a)
+met_right p note pending s None =
+    let after : State = with_proc (with_pending pending) p s in
+    quiet_right s Next _ refl refl (λ H ms rs last a. ended_agrees H ms rs last (λ t. is_of p (by_id s.threads t)) after a)
+
+note_first_right : (p : ℕ) (s : State) (o : Option Delivery) → GoesRight s Next [] (note_first p s o)
+note_first_right p s None = next_of_right s (first_ready p s)
+note_first_right p s (Some d) = met_right p d.note d.pending s d.caught_by
+
 pub next_right : (setup : Setup) (p : ℕ) (s : State) → GoesRight s Next [] (next_event setup p s)
 unfolding next_event
 next_right setup p s =
@@ -138,7 +151,7 @@ next_right setup p s =
     (stray_right s Next Over refl)
     (if_right s Next (list_any (runs_in p) s.threads) _ _
     (stray_right s Next Stray refl)
-    (next_of_right s (first_ready p s))))
+    (note_first_right p s (next_note p s))))
 
 take_right : (k : ℕ) (s : State) (o : Option Ioproc) → GoesRight s IoTake [] (take_call k s o)
 take_right k s None = stray_right s IoTake Stray refl

@@ -82,6 +82,7 @@ with_chans_sound setup s chans right within sound =
       in_turn = sound.in_turn;
       order = sound.order;
       calls = sound.calls;
+      notes = sound.notes;
     }
 
 drawn_sound : (setup : Setup) (entries : List AltEntry) (s : State) → IsSound setup s → IsSound setup (with_draw entries s)
@@ -95,6 +96,7 @@ drawn_sound setup entries s sound =
       in_turn = sound.in_turn;
       order = sound.order;
       calls = sound.calls;
+      notes = sound.notes;
     }
 
 dealt_fine : (setup : Setup) (t : ℕ) (answer : Answer) (o : Option (ℕ × Answer)) (chans : List Channel) (s : State) → WokenWaits o s.waits → WaitRightly chans (left_by o s.waits) → All IsWithin chans → IsSound setup s → RunsIn s t → IsFine setup s.position (done t answer (with_woken o (with_chans chans s)))

@@ -15,7 +15,7 @@ use Rattle.p9_manual.specs.declared.state.Waiter.{Waiter}
 use Rattle.p9_manual.specs.declared.state.Ioproc.{Ioproc}
 use Rattle.p9_manual.specs.declared.state.Ioproc.TheVariants.{Unmade, Idle, Posted, Begun, Closed}
 use Rattle.p9_manual.specs.Effects.{message_length}
-use Rattle.p9_manual.specs.Ends.{let_go}
+use Rattle.p9_manual.specs.Ends.{Gone, let_go}
 use Rattle.p9_manual.specs.Offers.{parties}
 use Rattle.p9_manual.specs.State.{by_id, changed, waits_without}
 use Rattle.p9_manual.specs.Standing.{StandOnce, times, place_of}
@@ -29,35 +29,39 @@ use Rattle.p9_laws.proofs.Sound.Stand.{eqb_same, eqb_other, waits_once}
 calls_push : (k : ℕ) (waits : List Waiter) (w : Waiter) → waiting_calls k (waits ++ w ∷ []) ≡ waiting_calls k waits ++ call_at k w
 calls_push k waits w = flat_map-append (call_at k) waits (w ∷ []) ∙ ap (λ cs. waiting_calls k waits ++ cs) (append-nil (call_at k w))
 
--- the call isn't for t
-abbrev is_not_for : ℕ → ℕ × IoCall → Bool
-is_not_for t c = not (eqb c.0 t)
+-- the call isn't for one of those who end
+abbrev is_not_for : Gone → ℕ × IoCall → Bool
+is_not_for ends c = not (ends c.0)
 
 abbrev is_for : ℕ → ℕ × IoCall → Bool
 is_for t c = eqb c.0 t
 
-one_without : (t u : ℕ) (call : IoCall) (b c : Bool) → eqb u t ≡ b → filter (is_not_for t) (cond c ((u, call) ∷ []) []) ≡ cond b [] (cond c ((u, call) ∷ []) [])
-one_without t u call true true h = rw h refl
-one_without t u call false true h = rw h refl
-one_without t u call true false h = refl
-one_without t u call false false h = refl
+one_off : (ends : Gone) (u : ℕ) (call : IoCall) (b c : Bool) → ends u ≡ b → filter (is_not_for ends) (cond c ((u, call) ∷ []) []) ≡ cond b [] (cond c ((u, call) ∷ []) [])
+one_off ends u call true true h = rw h refl
+one_off ends u call false true h = rw h refl
+one_off ends u call true false h = refl
+one_off ends u call false false h = refl
 
 either_way : {A : Type 0} (b : Bool) (x : A) → x ≡ cond b x x
 either_way true x = refl
 either_way false x = refl
 
-call_without : (k t u : ℕ) (r : Request) (b : Bool) → eqb u t ≡ b → filter (is_not_for t) (call_in k u r) ≡ cond b [] (call_in k u r)
-call_without k t u (IoRequest (IoRun j call)) b h = one_without t u call b (eqb j k) h
-call_without k t u r b h = either_way b []
+call_off : (k : ℕ) (ends : Gone) (u : ℕ) (r : Request) (b : Bool) → ends u ≡ b → filter (is_not_for ends) (call_in k u r) ≡ cond b [] (call_in k u r)
+call_off k ends u (IoRequest (IoRun j call)) b h = one_off ends u call b (eqb j k) h
+call_off k ends u r b h = either_way b []
 
-without_step : (k t : ℕ) (b : Bool) (w : Waiter) (fs ws : List Waiter) → eqb w.tid t ≡ b → waiting_calls k fs ≡ filter (is_not_for t) (waiting_calls k ws) → waiting_calls k (cond (not b) (w ∷ fs) fs) ≡ filter (is_not_for t) (call_at k w ++ waiting_calls k ws)
-without_step k t true w fs ws h e = rw (filter-append (is_not_for t) (call_at k w) (waiting_calls k ws), call_without k t w.tid w.request true h) e
-without_step k t false w fs ws h e = rw (filter-append (is_not_for t) (call_at k w) (waiting_calls k ws), call_without k t w.tid w.request false h) (ap (λ cs. call_at k w ++ cs) e)
+off_step : (k : ℕ) (ends : Gone) (b : Bool) (w : Waiter) (fs ws : List Waiter) → ends w.tid ≡ b → waiting_calls k fs ≡ filter (is_not_for ends) (waiting_calls k ws) → waiting_calls k (cond (not b) (w ∷ fs) fs) ≡ filter (is_not_for ends) (call_at k w ++ waiting_calls k ws)
+off_step k ends true w fs ws h e = rw (filter-append (is_not_for ends) (call_at k w) (waiting_calls k ws), call_off k ends w.tid w.request true h) e
+off_step k ends false w fs ws h e = rw (filter-append (is_not_for ends) (call_at k w) (waiting_calls k ws), call_off k ends w.tid w.request false h) (ap (λ cs. call_at k w ++ cs) e)
 
--- without the waits of t the calls of t are gone
-calls_without : (k t : ℕ) → (waits : List Waiter) → waiting_calls k (waits_without t waits) ≡ filter (is_not_for t) (waiting_calls k waits)
-calls_without k t [] = refl
-calls_without k t (w ∷ ws) = without_step k t (eqb w.tid t) w (waits_without t ws) ws refl (calls_without k t ws)
+-- without the waits of some threads their calls are gone
+calls_off : (k : ℕ) (ends : Gone) → (waits : List Waiter) → waiting_calls k (filter (λ w. not (ends w.tid)) waits) ≡ filter (is_not_for ends) (waiting_calls k waits)
+calls_off k ends [] = refl
+calls_off k ends (w ∷ ws) = off_step k ends (ends w.tid) w (filter (λ x. not (ends x.tid)) ws) ws refl (calls_off k ends ws)
+
+-- and so without those of one
+calls_without : (k t : ℕ) (waits : List Waiter) → waiting_calls k (waits_without t waits) ≡ filter (λ c. not (is_for t c)) (waiting_calls k waits)
+calls_without k t waits = calls_off k (λ u. eqb u t) waits
 
 apart_step : (t u : ℕ) (call : IoCall) (b c : Bool) → (b ≡ true → c ≡ true → ⊥) → times (is_for t) (cond b ((u, call) ∷ []) []) + times (is_for t) (cond c ((u, call) ∷ []) []) ≤ cond (eqb u t) 1 0
 apart_step t u call true true h = absurd (h refl refl)
@@ -189,11 +193,11 @@ done_match threads line waits ioprocs t k call e stand match' =
     its_call : waiting_calls k waits ≡ (t, call) ∷ []
     its_call = match'.calls k ∙ ap call_of e
 
-    gone : filter (is_not_for t) ((t, call) ∷ []) ≡ []
+    gone : filter (λ c. not (is_for t c)) ((t, call) ∷ []) ≡ []
     gone = rw (eqb_same t) refl
 
-    done_here : (j : ℕ) → j ≡ k → filter (is_not_for t) (waiting_calls j waits) ≡ call_of (by_id (changed (λ _. Idle) ioprocs (k - 1)) j)
-    done_here j here = ap (λ x. filter (is_not_for t) (waiting_calls x waits)) here ∙ ap (filter (is_not_for t)) its_call ∙ gone ∙ sym (ap call_of (at_k j here))
+    done_here : (j : ℕ) → j ≡ k → filter (λ c. not (is_for t c)) (waiting_calls j waits) ≡ call_of (by_id (changed (λ _. Idle) ioprocs (k - 1)) j)
+    done_here j here = ap (λ x. filter (λ c. not (is_for t c)) (waiting_calls x waits)) here ∙ ap (filter (λ c. not (is_for t c))) its_call ∙ gone ∙ sym (ap call_of (at_k j here))
 
     none_else : (j : ℕ) → j ≢ k → times (is_for t) (waiting_calls j waits) ≡ 0
     none_else j ne =
@@ -202,48 +206,48 @@ done_match threads line waits ioprocs t k call e stand match' =
         let once = (begun_waits threads line waits ioprocs t k call e stand match').1 in
         omega (arith, sum, one, once)
 
-    done_elsewhere : (j : ℕ) → j ≢ k → filter (is_not_for t) (waiting_calls j waits) ≡ call_of (by_id (changed (λ _. Idle) ioprocs (k - 1)) j)
+    done_elsewhere : (j : ℕ) → j ≢ k → filter (λ c. not (is_for t c)) (waiting_calls j waits) ≡ call_of (by_id (changed (λ _. Idle) ioprocs (k - 1)) j)
     done_elsewhere j ne =
         filter_none (is_for t) (waiting_calls j waits) (none_else j ne) ∙ match'.calls j ∙ sym (ap call_of (by_id-changed_other (λ _. Idle) ioprocs k j (Begun (Some t) call) e ne))
 
-posted_let_go : (t u : ℕ) (call : IoCall) (b : Bool) → eqb u t ≡ b → call_of (Some (cond b Idle (Posted u call))) ≡ filter (is_not_for t) ((u, call) ∷ [])
-posted_let_go t u call true h = rw h refl
-posted_let_go t u call false h = rw h refl
+posted_let_go : (ends : Gone) (u : ℕ) (call : IoCall) (b : Bool) → ends u ≡ b → call_of (Some (cond b Idle (Posted u call))) ≡ filter (is_not_for ends) ((u, call) ∷ [])
+posted_let_go ends u call true h = rw h refl
+posted_let_go ends u call false h = rw h refl
 
-begun_let_go : (t u : ℕ) (call : IoCall) (b : Bool) → eqb u t ≡ b → call_of (Some (Begun (cond b None (Some u)) call)) ≡ filter (is_not_for t) ((u, call) ∷ [])
-begun_let_go t u call true h = rw h refl
-begun_let_go t u call false h = rw h refl
+begun_let_go : (ends : Gone) (u : ℕ) (call : IoCall) (b : Bool) → ends u ≡ b → call_of (Some (Begun (cond b None (Some u)) call)) ≡ filter (is_not_for ends) ((u, call) ∷ [])
+begun_let_go ends u call true h = rw h refl
+begun_let_go ends u call false h = rw h refl
 
--- the call of an ioproc without t
-call_let_go : (t : ℕ) (o : Option Ioproc) → call_of (option_map (let_go t) o) ≡ filter (is_not_for t) (call_of o)
-call_let_go t None = refl
-call_let_go t (Some Unmade) = refl
-call_let_go t (Some Idle) = refl
-call_let_go t (Some (Posted u call)) = posted_let_go t u call (eqb u t) refl
-call_let_go t (Some (Begun None call)) = refl
-call_let_go t (Some (Begun (Some u) call)) = begun_let_go t u call (eqb u t) refl
-call_let_go t (Some Closed) = refl
+-- the call of an ioproc without those who end
+call_let_go : (ends : Gone) (o : Option Ioproc) → call_of (option_map (let_go ends) o) ≡ filter (is_not_for ends) (call_of o)
+call_let_go ends None = refl
+call_let_go ends (Some Unmade) = refl
+call_let_go ends (Some Idle) = refl
+call_let_go ends (Some (Posted u call)) = posted_let_go ends u call (ends u) refl
+call_let_go ends (Some (Begun None call)) = refl
+call_let_go ends (Some (Begun (Some u) call)) = begun_let_go ends u call (ends u) refl
+call_let_go ends (Some Closed) = refl
 
 message_posted : (u : ℕ) (call : IoCall) (b : Bool) → message_at (Some (cond b Idle (Posted u call))) ≤ message_length call
 message_posted u call true = omega arith
 message_posted u call false = omega arith
 
-message_let_go : (t : ℕ) (o : Option Ioproc) → message_at (option_map (let_go t) o) ≤ message_at o
-message_let_go t None = omega arith
-message_let_go t (Some Unmade) = omega arith
-message_let_go t (Some Idle) = omega arith
-message_let_go t (Some (Posted u call)) = message_posted u call (eqb u t)
-message_let_go t (Some (Begun for call)) = omega arith
-message_let_go t (Some Closed) = omega arith
+message_let_go : (ends : Gone) (o : Option Ioproc) → message_at (option_map (let_go ends) o) ≤ message_at o
+message_let_go ends None = omega arith
+message_let_go ends (Some Unmade) = omega arith
+message_let_go ends (Some Idle) = omega arith
+message_let_go ends (Some (Posted u call)) = message_posted u call (ends u)
+message_let_go ends (Some (Begun for call)) = omega arith
+message_let_go ends (Some Closed) = omega arith
 
--- t has ended
-pub ended_match : (t : ℕ) (ioprocs : List Ioproc) (waits : List Waiter) → CallsMatch ioprocs waits → CallsMatch (map (let_go t) ioprocs) (waits_without t waits)
-ended_match t ioprocs waits match' =
+-- some threads have ended
+pub ended_match : (ends : Gone) (ioprocs : List Ioproc) (waits : List Waiter) → CallsMatch ioprocs waits → CallsMatch (map (let_go ends) ioprocs) (filter (λ w. not (ends w.tid)) waits)
+ended_match ends ioprocs waits match' =
     record {
-      calls = λ k. calls_without k t waits ∙ ap (filter (is_not_for t)) (match'.calls k) ∙ sym (call_let_go t (by_id ioprocs k)) ∙ sym (ap call_of (by_id-map (let_go t) ioprocs k));
+      calls = λ k. calls_off k ends waits ∙ ap (filter (is_not_for ends)) (match'.calls k) ∙ sym (call_let_go ends (by_id ioprocs k)) ∙ sym (ap call_of (by_id-map (let_go ends) ioprocs k));
       messages = λ k.
-          let a = ap message_at (by_id-map (let_go t) ioprocs k) in
-          let b = message_let_go t (by_id ioprocs k) in
+          let a = ap message_at (by_id-map (let_go ends) ioprocs k) in
+          let b = message_let_go ends (by_id ioprocs k) in
           let m = match'.messages k in
           bounded _ _ _ a b m;
     }

@@ -100,6 +100,20 @@ pub all_kept : {A : Type 0} (q p : A → Bool) → ((w : A) → p w ≡ true →
 all_kept q p h [] = refl
 all_kept q p h (w ∷ ws) = kept_step q (p w) w (filter (λ x. not (p x)) ws) ws (h w) (all_kept q p h ws)
 
+left_step : {A : Type 0} (q : A → Bool) (b c d : Bool) (w : A) (fs ws : List A) → q w ≡ c → (c ≡ true → d ≡ b) → times q fs ≡ cond b 0 (times q ws) → times q (cond (not d) (w ∷ fs) fs) ≡ cond b 0 (cond c 1 0 + times q ws)
+left_step q true c true w fs ws h k e = e
+left_step q true true false w fs ws h k e = let f = k refl in cc
+left_step q true false false w fs ws h k e = rw h (omega (arith, e))
+left_step q false true true w fs ws h k e = let f = k refl in cc
+left_step q false false true w fs ws h k e = omega (arith, e)
+left_step q false c false w fs ws h k e = rw (h, e) refl
+
+-- how many pass without some, among whom are all or none of those that pass
+pub times_left : {A : Type 0} (q p : A → Bool) (b : Bool) → ((w : A) → q w ≡ true → p w ≡ b) → (ws : List A) → times q (filter (λ w. not (p w)) ws) ≡ cond b 0 (times q ws)
+times_left q p true h [] = refl
+times_left q p false h [] = refl
+times_left q p b h (w ∷ ws) = left_step q b (q w) (p w) w (filter (λ x. not (p x)) ws) ws refl (h w) (times_left q p b h ws)
+
 none_step : (b c : Bool) (n : ℕ) → (b || c) ≡ false → (c ≡ false → n ≡ 0) → cond b 1 0 + n ≡ 0
 none_step true c n h k = cc
 none_step false c n h k = let z = k h in omega arith
@@ -107,6 +121,14 @@ none_step false c n h k = let z = k h in omega arith
 pub times_none : {A : Type 0} (q : A → Bool) → (xs : List A) → list_any q xs ≡ false → times q xs ≡ 0
 times_none q [] h = refl
 times_none q (x ∷ xs) h = none_step (q x) (list_any q xs) (times q xs) h (times_none q xs)
+
+any_step : (b c : Bool) (n : ℕ) → (c ≡ true → 1 ≤ n) → (b || c) ≡ true → 1 ≤ cond b 1 0 + n
+any_step true c n k h = omega arith
+any_step false c n k h = let some = k h in omega (arith, some)
+
+pub any_counts : {A : Type 0} (q : A → Bool) → (xs : List A) → list_any q xs ≡ true → 1 ≤ times q xs
+any_counts q [] h = cc
+any_counts q (x ∷ xs) h = any_step (q x) (list_any q xs) (times q xs) (any_counts q xs) h
 
 found_step : {A : Type 0} (p q : A → Bool) (b : Bool) (x y : A) (r : Option A) (n : ℕ) → p x ≡ b → q y ≡ true → (r ≡ Some y → (p y ≡ true) × (1 ≤ n)) → cond b (Some x) r ≡ Some y → (p y ≡ true) × (1 ≤ cond (q x) 1 0 + n)
 found_step p q true x y r n h t k e = let same : x ≡ y = cc in (rw (← same) h, rw (same, t) (omega arith))

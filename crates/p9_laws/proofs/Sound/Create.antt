@@ -16,6 +16,7 @@ use Rattle.p9_manual.specs.Create.{fresh, with_thread}
 use Rattle.p9_manual.specs.Standing.{StandOnce, times, place_of, place_in, times_in_line, times_in_waits}
 use Rattle.p9_manual.specs.Sound.{IsSound, IsThreadIn}
 use Rattle.p9_laws.proofs.LockWaiters.{nobody_past}
+use Rattle.p9_laws.proofs.Pending.{pushed_lives, read_on}
 use Rattle.p9_laws.proofs.Sound.Counts.{times-push}
 use Rattle.p9_laws.proofs.Sound.InTurn.{made_in_turn}
 use Rattle.p9_laws.proofs.Sound.Places.{by_id-push_same, by_id-push_other, by_id-past, runs_before}
@@ -79,6 +80,7 @@ with_thread_sound setup s p program arg group here one sound =
       in_turn = made_in_turn s.threads s.holds (lock_waiters s.waits) (fresh p program arg group) (λ q. no_one (eqb p q)) (nobody_past s.threads s.line s.waits sound.stand) sound.in_turn;
       order = sound.order;
       calls = sound.calls;
+      notes = read_on s.procs s.procs s.threads (s.threads ++ fresh p program arg group ∷ []) (λ q. refl) (pushed_lives s.threads (fresh p program arg group)) sound.notes;
     }
 
 -- a thread that runs runs on when another one is made
@@ -99,6 +101,7 @@ opened_sound setup s room sound =
       in_turn = sound.in_turn;
       order = sound.order;
       calls = sound.calls;
+      notes = sound.notes;
     }
 
 pub made_thread_fine : (setup : Setup) (t program arg : ℕ) (s : State) (caller : Thread) → by_id s.threads t ≡ Some caller → IsBetween 1 setup.programs program → IsSound setup s → IsFine setup s.position (now (Number (length s.threads + 1)) (with_thread caller.proc_no program arg caller.group s))

@@ -1,5 +1,5 @@
 -- A change of a thread that leaves its place, its proc and its program keeps a sound state sound.
-use Rattle.std.proofs.Common.{◌≡◌, ℕ, zero, suc, ◌+◌, ◌-◌, cond, List, [], ◌∷◌, refl, ap, subst, sym, ◌∙◌, arith}
+use Rattle.std.proofs.Common.{◌≡◌, ℕ, zero, suc, ◌+◌, ◌-◌, true, cond, List, [], ◌∷◌, refl, ap, subst, sym, ◌∙◌, arith}
 use Rattle.std.specs.Prelude.{slice_get}
 use Rattle.p9_word.specs.Setup.{IsBetween}
 use Rattle.p9_word.specs.declared.setup.Setup.{Setup}
@@ -8,7 +8,7 @@ use Rattle.p9_manual.specs.declared.state.Thread.{Thread}
 use Rattle.p9_manual.specs.declared.state.Waiter.{Waiter}
 use Rattle.p9_manual.specs.Holds.{Holds}
 use Rattle.p9_manual.specs.LockWaits.{lock_waiters}
-use Rattle.p9_manual.specs.Places.{runs_in}
+use Rattle.p9_manual.specs.Places.{lives_in, runs_in}
 use Rattle.p9_manual.specs.SoundLocks.{WaitInTurn}
 use Rattle.p9_manual.specs.State.{State, changed}
 use Rattle.p9_manual.specs.Threads.{with_changed}
@@ -16,6 +16,7 @@ use Rattle.p9_manual.specs.Standing.{StandOnce, times, place_of, place_in, times
 use Rattle.p9_manual.specs.Sound.{IsSound, IsThreadIn}
 use Rattle.p9_laws.proofs.Asked.{LeavesStanding}
 use Rattle.p9_laws.proofs.LockWaiters.{holders_changed}
+use Rattle.p9_laws.proofs.Pending.{changed_lives, read_on}
 use Rattle.p9_laws.proofs.Sound.Counts.{All-changed}
 use Rattle.p9_laws.proofs.Sound.Places.{by_id-suc}
 
@@ -64,6 +65,9 @@ turn_left f leaves threads holds ws i turn =
       tags = turn.tags;
     }
 
+lives_left : (f : Thread → Thread) → LeavesStanding f → (x : Thread) (p : ℕ) → lives_in p x ≡ true → lives_in p (f x) ≡ true
+lives_left f leaves x p h = rw (leaves.proc_no x, leaves.place x) h
+
 pub with_changed_sound : (setup : Setup) (f : Thread → Thread) (t : ℕ) (s : State) → LeavesStanding f → IsSound setup s → IsSound setup (with_changed f t s)
 with_changed_sound setup f t s leaves sound =
     record {
@@ -75,4 +79,5 @@ with_changed_sound setup f t s leaves sound =
       in_turn = turn_left f leaves s.threads s.holds (lock_waiters s.waits) (t - 1) sound.in_turn;
       order = sound.order;
       calls = sound.calls;
+      notes = read_on s.procs s.procs s.threads (changed f s.threads (t - 1)) (λ p. refl) (changed_lives f (lives_left f leaves) s.threads (t - 1)) sound.notes;
     }

@@ -1,7 +1,9 @@
 -- Each step keeps a sound state sound, one that makes no entry changes nothing, and the first state is sound.
-use Rattle.std.proofs.Common.{◌≡◌, zero-add, ℕ, zero, suc, ◌+◌, ◌<◌, Bool, true, false, eqb, List, [], ◌∷◌, map, replicate, Option, Some, None, refl, subst, sym, arith, rules, tests}
+use Rattle.std.proofs.Common.{◌≡◌, zero-add, ℕ, zero, suc, ◌+◌, ◌<◌, Bool, true, false, not, eqb, List, [], ◌∷◌, map, replicate, Option, Some, None, refl, subst, sym, arith, rules, tests}
 use Rattle.std.specs.Prelude.{slice_get, All}
 use Rattle.std.specs.List.{fold, AllByRecursion}
+use Rattle.std.specs.Option.{is_some}
+use Rattle.std.proofs.lemmas.Bool.{not-false}
 use Rattle.std.proofs.lemmas.List.Elements.{All-from_recursion, All-map, All-weaker}
 use Rattle.p9_word.specs.Setup.{IsValid, IsThreadOf, IsBetween}
 use Rattle.p9_word.specs.declared.trail.Reply.{Reply}
@@ -9,20 +11,22 @@ use Rattle.p9_word.specs.declared.setup.Setup.{Setup}
 use Rattle.p9_word.specs.declared.setup.ChanSetup.{ChanSetup}
 use Rattle.p9_word.specs.declared.setup.ThreadSetup.{ThreadSetup}
 use Rattle.p9_word.specs.declared.request.Request.{Request}
-use Rattle.p9_word.specs.declared.request.Request.TheVariants.{Thread as ThreadRequest, Chan as ChanRequest, Lock as LockRequest, Io as IoRequest}
+use Rattle.p9_word.specs.declared.request.Request.TheVariants.{Thread as ThreadRequest, Signal as SignalRequest, Chan as ChanRequest, Lock as LockRequest, Io as IoRequest}
 use Rattle.p9_word.specs.declared.trail.Seat.{Seat}
 use Rattle.p9_word.specs.declared.trail.Seat.TheVariants.{Proc, Io as IoSeat}
 use Rattle.p9_word.specs.declared.trail.Event.{Event}
 use Rattle.p9_word.specs.declared.trail.Event.TheVariants.{Call, Next, IoTake, IoDid}
 use Rattle.p9_word.specs.declared.trail.Entry.{Entry}
-use Rattle.p9_word.specs.declared.trail.Reply.TheVariants.{Stray, Begin}
+use Rattle.p9_word.specs.declared.trail.Reply.TheVariants.{Stray, Begin, Ended}
 use Rattle.p9_manual.specs.declared.state.Place.TheVariants.{New}
 use Rattle.p9_manual.specs.declared.state.Ioproc.{Ioproc}
 use Rattle.p9_manual.specs.declared.state.Ioproc.TheVariants.{Unmade}
 use Rattle.p9_manual.specs.Places.{runs_in, runs_there}
-use Rattle.p9_manual.specs.State.{State, Outcome, by_id}
-use Rattle.p9_manual.specs.Step.{served, called, outcome, step, counted, settled, makes_entry}
-use Rattle.p9_manual.specs.History.{state_after, begin_state, after_entry, ids_from, new_thread, new_channel, no_holds}
+use Rattle.p9_manual.specs.Ends.{ended}
+use Rattle.p9_manual.specs.NoteCalls.{note_in}
+use Rattle.p9_manual.specs.State.{State, Outcome, by_id, replied}
+use Rattle.p9_manual.specs.Step.{served, is_doomed, called, outcome, step, counted, settled, makes_entry}
+use Rattle.p9_manual.specs.History.{state_after, begin_state, after_entry, ids_from, new_thread, new_channel, new_proc, no_holds}
 use Rattle.p9_manual.specs.Standing.{times, place_of, place_in, times_in_line, times_in_waits}
 use Rattle.p9_manual.specs.Sound.{IsSound, IsWithin, IsThreadIn, CallsMatch, call_of, message_at}
 use Rattle.p9_laws.proofs.Asked.{thread_call_does}
@@ -31,26 +35,33 @@ use Rattle.p9_laws.proofs.Sound.Running.{at_rest, place_runs}
 use Rattle.p9_laws.proofs.Sound.InTurn.{nobody_in_turn}
 use Rattle.p9_laws.proofs.Sound.Order.{nobody_in_order}
 use Rattle.p9_laws.proofs.Sound.Waits.{nobody_rightly}
-use Rattle.p9_laws.proofs.Sound.Outcomes.{IsFine, IsSafe, BeginsOneOf, RunsIn, fine_safe, same_safe, if_safe}
+use Rattle.p9_laws.proofs.Sound.Ends.{ended_sound}
+use Rattle.p9_laws.proofs.Sound.Outcomes.{IsFine, IsSafe, BeginsOneOf, RunsIn, fine_safe, same_safe, if_safe, later_sound}
 use Rattle.p9_laws.proofs.Sound.Threads.{asked_fine}
 use Rattle.p9_laws.proofs.Sound.Chans.{chan_call_fine}
 use Rattle.p9_laws.proofs.Sound.Locks.{lock_call_fine}
 use Rattle.p9_laws.proofs.Sound.Ioprocs.{io_call_fine, io_event_safe}
 use Rattle.p9_laws.proofs.Sound.Next.{next_event_safe}
+use Rattle.p9_laws.proofs.Sound.Signals.{signal_call_fine}
 
 served_fine : (setup : Setup) (t : ℕ) (r : Request) (s : State) → IsSound setup s → RunsIn s t → IsFine setup s.position (served setup t r s)
 unfolding served
 served_fine setup t (ThreadRequest r) s sound runs = asked_fine setup t s _ (thread_call_does setup t r s) sound runs
+served_fine setup t (SignalRequest r) s sound runs = signal_call_fine setup t r s sound
 served_fine setup t (ChanRequest r) s sound runs = chan_call_fine setup t r s sound runs
 served_fine setup t (LockRequest r) s sound runs = lock_call_fine setup t r s sound runs
 served_fine setup t (IoRequest r) s sound runs = io_call_fine setup t r s sound runs
 
+-- a thread that is marked ends instead
+doomed_safe : (setup : Setup) (t : ℕ) (s : State) → IsSound setup s → IsSafe setup s (replied Ended (ended t s))
+doomed_safe setup t s sound = record { sound = later_sound setup (ended t s) (ended_sound setup (λ u. eqb u t) s sound); begins = tt }
+
 called_safe : (setup : Setup) (p t : ℕ) (r : Request) (s : State) → IsSound setup s → IsSafe setup s (called setup p t r s)
 unfolding called
 called_safe setup p t r s sound =
-    if_safe setup s (runs_there p (by_id s.threads t)) _ _
-    (λ e. fine_safe setup s _ (served_fine setup t r s sound (place_runs p (by_id s.threads t) e)))
-    (λ _. same_safe setup s Stray refl sound)
+    if_safe setup s (not (runs_there p (by_id s.threads t))) _ _ (λ _. same_safe setup s Stray refl sound)
+    (λ e. if_safe setup s (is_doomed t r s) _ _ (λ _. doomed_safe setup t s sound)
+    (λ _. fine_safe setup s _ (served_fine setup t r s sound (place_runs p (by_id s.threads t) (not-false (runs_there p (by_id s.threads t)) e)))))
 
 outcome_safe : (setup : Setup) (seat : Seat) (event : Event) (s : State) → IsSound setup s → IsSafe setup s (outcome setup seat event s)
 unfolding outcome
@@ -143,6 +154,16 @@ begin_calls : (files : ℕ) → CallsMatch (replicate files Unmade) []
 unfolding unmade
 begin_calls files = record { calls = λ k. sym (unmade_by_id files k).0; messages = λ k. let z = (unmade_by_id files k).1 in omega (arith, z) }
 
+quiet_at : (n i : ℕ) → is_some (note_in (slice_get (replicate n new_proc) i)) ≡ false
+quiet_at zero i = refl
+quiet_at (suc n) zero = refl
+quiet_at (suc n) (suc i) = quiet_at n i
+
+-- no note is pending at the start
+quiet_by_id : (n p : ℕ) → is_some (note_in (by_id (replicate n new_proc) p)) ≡ false
+quiet_by_id n zero = refl
+quiet_by_id n (suc i) = rw by_id-suc (quiet_at n i)
+
 begin_members : (setup : Setup) → IsValid setup → All (IsThreadIn setup.opened setup.programs) (map new_thread setup.threads)
 begin_members setup valid =
     All-map (IsThreadIn setup.opened setup.programs) new_thread setup.threads
@@ -166,6 +187,7 @@ begin_sound setup valid =
       in_turn = nobody_in_turn (map new_thread setup.threads) (no_holds setup) (λ p. let z = begin_runs p setup.threads in omega (arith, z));
       order = nobody_in_order 0;
       calls = begin_calls setup.files;
+      notes = λ p h. let none = quiet_by_id setup.places p in cc (none, h);
     }
 
 fold_sound : (setup : Setup) (history : List Entry) (s : State) → IsSound setup s → IsSound setup (fold (after_entry setup) s history)

@@ -1,6 +1,6 @@
 -- How threads wait in turn at locks and with tags, where a thread was put somewhere, or waits or waits no more.
-use Rattle.std.proofs.Common.{◌≡◌, inl, inr, ℕ, ◌+◌, ◌-◌, ◌≤◌, Bool, true, false, eqb, List, [], ◌∷◌, ◌++◌, length, Some, refl, ap, sym, subst, arith, rules, tests}
-use Rattle.std.specs.List.{list_any}
+use Rattle.std.proofs.Common.{◌≡◌, inl, inr, ℕ, ◌+◌, ◌-◌, ◌≤◌, Bool, true, false, not, ◌&&◌, eqb, List, [], ◌∷◌, ◌++◌, length, Some, refl, ap, sym, subst, arith, rules, tests}
+use Rattle.std.specs.List.{filter, list_any}
 use Rattle.std.proofs.lemmas.Bool.{cases_eq}
 use Rattle.p9_word.specs.declared.answer.Answer.{Answer}
 use Rattle.p9_manual.specs.declared.locks.LockWait.TheVariants as wait
@@ -11,16 +11,18 @@ use Rattle.p9_manual.specs.declared.state.Thread.{Thread}
 use Rattle.p9_manual.specs.declared.state.Waiter.{Waiter}
 use Rattle.p9_manual.specs.Held.{holds_in}
 use Rattle.p9_manual.specs.Holds.{Holds}
-use Rattle.p9_manual.specs.LockWaits.{lock_waiter_of, lock_waiters}
+use Rattle.p9_manual.specs.Ends.{Gone, ended_if}
+use Rattle.p9_manual.specs.LockWaits.{holds_proc, lock_waiter_of, lock_waiters}
 use Rattle.p9_manual.specs.Places.{runs_in, is_running}
 use Rattle.p9_manual.specs.Queues.{waits_for}
 use Rattle.p9_manual.specs.SoundLocks.{WaitInTurn}
 use Rattle.p9_manual.specs.Standing.{times}
-use Rattle.p9_manual.specs.State.{by_id, placed, waits_without}
-use Rattle.p9_laws.proofs.LockWaiters.{is_locker, holders_placed, holders_push, lock_waiters_without, lock_waiters_other}
+use Rattle.p9_manual.specs.State.{by_id, each_from, placed, waits_without}
+use Rattle.p9_laws.proofs.EndedWhere.{is_of-ended}
+use Rattle.p9_laws.proofs.LockWaiters.{is_locker, holders_placed, holders_push, lock_waiters_off, lock_waiters_other, times_same}
 use Rattle.p9_laws.proofs.Sound.Counts.{times-push, times_none, times_parts}
 use Rattle.p9_laws.proofs.Sound.Places.{get_from_by_id}
-use Rattle.p9_laws.proofs.Sound.Running.{runs-changed, runs-started, runs-started_elsewhere}
+use Rattle.p9_laws.proofs.Sound.Running.{runs-changed, runs-ended, runs-started, runs-started_elsewhere}
 
 -- a thread was put where it doesn't run
 pub placed_in_turn : (threads : List Thread) (holds : Holds) (ws : List LockWaiter) (t : ℕ) (pl : Place) → is_running pl ≡ false → WaitInTurn threads holds ws → WaitInTurn (placed t pl threads) holds ws
@@ -69,21 +71,39 @@ made_in_turn threads holds ws y rest nowhere turn =
       tags = turn.tags;
     }
 
--- no more pass where a thread waits no more
-pub fewer_lockers : (q : LockWaiter → Bool) (t : ℕ) (waits : List Waiter) → times q (lock_waiters (waits_without t waits)) ≤ times q (lock_waiters waits)
-fewer_lockers q t waits =
-    let a = ap (times q) (lock_waiters_without t waits) in
-    let b = times_parts q (is_locker t) (lock_waiters waits) in
+-- no more pass where some threads wait no more
+fewer_lockers : (q : LockWaiter → Bool) (off : ℕ → Bool) (waits : List Waiter) → times q (lock_waiters (filter (λ w. not (off w.tid)) waits)) ≤ times q (lock_waiters waits)
+fewer_lockers q off waits =
+    let a = ap (times q) (lock_waiters_off off waits) in
+    let b = times_parts q (λ w. off w.tid) (lock_waiters waits) in
     omega (arith, a, b)
 
--- a thread waits no more
-pub without_in_turn : (threads : List Thread) (holds : Holds) (waits : List Waiter) (t : ℕ) → WaitInTurn threads holds (lock_waiters waits) → WaitInTurn threads holds (lock_waiters (waits_without t waits))
-without_in_turn threads holds waits t turn =
+-- some threads wait no more
+off_in_turn : (threads : List Thread) (holds : Holds) (waits : List Waiter) (off : ℕ → Bool) → WaitInTurn threads holds (lock_waiters waits) → WaitInTurn threads holds (lock_waiters (filter (λ w. not (off w.tid)) waits))
+off_in_turn threads holds waits off turn =
     record {
-      held = λ p. let fewer = fewer_lockers (holds_in threads p) t waits in let one = turn.held p in omega (arith, fewer, one);
-      free = λ s k h. let fewer = fewer_lockers (waits_for (wait.Lock s k)) t waits in let none = turn.free s k h in omega (arith, fewer, none);
-      tags = λ tag. let fewer = fewer_lockers (waits_for (wait.Tag tag)) t waits in let one = turn.tags tag in omega (arith, fewer, one);
+      held = λ p. let fewer = fewer_lockers (holds_in threads p) off waits in let one = turn.held p in omega (arith, fewer, one);
+      free = λ s k h. let fewer = fewer_lockers (waits_for (wait.Lock s k)) off waits in let none = turn.free s k h in omega (arith, fewer, none);
+      tags = λ tag. let fewer = fewer_lockers (waits_for (wait.Tag tag)) off waits in let one = turn.tags tag in omega (arith, fewer, one);
     }
+
+-- and have ended
+pub ended_in_turn : (ends : Gone) (threads : List Thread) (holds : Holds) (waits : List Waiter) → WaitInTurn threads holds (lock_waiters waits) → WaitInTurn (each_from (ended_if ends) 1 threads) holds (lock_waiters (filter (λ w. not (ends w.tid)) waits))
+ended_in_turn ends threads holds waits turn =
+    let left = off_in_turn threads holds waits ends turn in
+    record {
+      held = λ p.
+          let same = times_same (holds_in (each_from (ended_if ends) 1 threads) p) (holds_in threads p) (λ w. ap (λ b. holds_proc w.what && b) (is_of-ended ends threads p w.tid)) (lock_waiters (filter (λ w. not (ends w.tid)) waits)) in
+          let fewer = runs-ended ends p 1 threads in
+          let one = left.held p in
+          omega (arith, same, fewer, one);
+      free = left.free;
+      tags = left.tags;
+    }
+
+-- a thread waits no more
+without_in_turn : (threads : List Thread) (holds : Holds) (waits : List Waiter) (t : ℕ) → WaitInTurn threads holds (lock_waiters waits) → WaitInTurn threads holds (lock_waiters (waits_without t waits))
+without_in_turn threads holds waits t turn = off_in_turn threads holds waits (λ u. eqb u t) turn
 
 -- and is ready
 pub woken_in_turn : (threads : List Thread) (holds : Holds) (waits : List Waiter) (t : ℕ) (a : Answer) → WaitInTurn threads holds (lock_waiters waits) → WaitInTurn (placed t (Ready a) threads) holds (lock_waiters (waits_without t waits))

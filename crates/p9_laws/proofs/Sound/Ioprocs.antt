@@ -15,9 +15,10 @@ use Rattle.p9_manual.specs.declared.state.Ioproc.TheVariants.{Unmade, Idle, Post
 use Rattle.p9_manual.specs.Effects.{fits, message_length}
 use Rattle.p9_manual.specs.LockWaits.{is_holding, lock_waiters}
 use Rattle.p9_manual.specs.Places.{lives}
-use Rattle.p9_manual.specs.State.{State, by_id}
+use Rattle.p9_manual.specs.State.{State, by_id, placed}
 use Rattle.p9_manual.specs.Ioprocs.{with_ioproc, make, post_call, close_ioproc, io_call, take_call, answered, did_call, io_event}
 use Rattle.p9_manual.specs.Sound.{IsSound, call_of, message_at}
+use Rattle.p9_laws.proofs.Pending.{placed_lives, read_on}
 use Rattle.p9_laws.proofs.Sound.InTurn.{aside_in_turn, woken_in_turn}
 use Rattle.p9_laws.proofs.Sound.Order.{without_order}
 use Rattle.p9_laws.proofs.Sound.Stand.{answered_stands, members_placed}
@@ -37,6 +38,7 @@ with_ioproc_sound setup s k old io e call short sound =
       in_turn = sound.in_turn;
       order = sound.order;
       calls = kept_match s.ioprocs s.waits k old io e call short sound.calls;
+      notes = sound.notes;
     }
 
 make_fine : (setup : Setup) (k : ℕ) (s : State) (o : Option Ioproc) → by_id s.ioprocs k ≡ o → IsSound setup s → IsFine setup s.position (make k s o)
@@ -53,7 +55,7 @@ le_from_ltb n m h = search (rules, tests)
 post_call_fine : (setup : Setup) (t k : ℕ) (call : IoCall) (s : State) (o : Option Ioproc) → by_id s.ioprocs k ≡ o → IsSound setup s → RunsIn s t → IsFine setup s.position (post_call t k call s o)
 post_call_fine setup t k call s (Some Idle) e sound runs =
     if_fine setup s.position (ltb 4294967295 (message_length call)) _ _ (λ _. bad_fine setup s sound)
-    (λ h. waiting_fine setup (with_ioproc k (Posted t call) s) t _ (record { stand = sound.stand; members = sound.members; opened = sound.opened; within = sound.within; order = sound.order }) runs
+    (λ h. waiting_fine setup (with_ioproc k (Posted t call) s) t _ (record { stand = sound.stand; members = sound.members; opened = sound.opened; within = sound.within; order = sound.order; notes = sound.notes }) runs
     (calling_rightly s.chans s.waits t k s.position call sound.waits_right)
     (posted_match s.ioprocs s.waits t k s.position call e (le_from_ltb 4294967295 (message_length call) h) sound.calls)
     (aside_in_turn s.threads s.holds s.waits (wait_of t (IoRequest (IoRun k call)) s) t Waiting refl refl sound.in_turn))
@@ -102,6 +104,7 @@ answered_sound setup s k (Some t) call effect e sound =
       in_turn = woken_in_turn s.threads s.holds s.waits t _ sound.in_turn;
       order = without_order s.position s.waits t sound.order;
       calls = done_match s.threads s.line s.waits s.ioprocs t k call e sound.stand sound.calls;
+      notes = read_on s.procs s.procs s.threads (placed t _ s.threads) (λ p. refl) (placed_lives t _ refl s.threads) sound.notes;
     })
 
 did_call_safe : (setup : Setup) (k : ℕ) (effect : Effect) (s : State) (o : Option Ioproc) → by_id s.ioprocs k ≡ o → IsSound setup s → IsSafe setup s (did_call k effect s o)

@@ -80,6 +80,7 @@ held_sound setup s h none sound =
       in_turn = record { held = sound.in_turn.held; free = none; tags = sound.in_turn.tags };
       order = sound.order;
       calls = sound.calls;
+      notes = sound.notes;
     }
 
 there_is : {A : Type 0} (o : Option A) → is_some o ≡ true → (x : A) × (o ≡ Some x)

@@ -122,6 +122,7 @@ moved_sound setup s more r q moved taken sound =
       in_turn = moved_turns s.threads s.holds s.waits more r q moved taken sound.in_turn;
       order = record { before = moved.before s.position sound.order.before; rising = parties_rise s.waits more moved.alts sound.order.rising };
       calls = same_calls s.ioprocs s.waits more moved.calls sound.calls;
+      notes = sound.notes;
     }
 
 -- a QLock that a thread holds isn't free

@@ -9,7 +9,7 @@ use Rattle.p9_manual.specs.Offers.{Alternation, alternation_of, party, party_wit
 use Rattle.p9_manual.specs.Standing.{IsRising}
 use Rattle.p9_manual.specs.Sound.{InOrder}
 use Rattle.p9_manual.specs.State.{waits_without}
-use Rattle.p9_laws.proofs.Sound.Parties.{is_tid, parties_push, parties_without}
+use Rattle.p9_laws.proofs.Sound.Parties.{parties_push, parties_off}
 
 every_step : {A B : Type 0} (P : B → Type 0) (f : A → B) (b : Bool) (x : A) (xs : List A) → P (f x) → AllByRecursion P (map f xs) → AllByRecursion P (map f (cond b (x ∷ xs) xs))
 every_step P f true x xs here rest = (here, rest)
@@ -48,13 +48,17 @@ nobody_in_order position = record { before = All-nil (λ (w : Waiter). w.at + 1 
 abbrev pub party_at : Party → ℕ
 party_at p = p.at
 
--- without the waits of a thread
-pub without_order : (position : ℕ) (waits : List Waiter) (t : ℕ) → InOrder position waits → InOrder position (waits_without t waits)
-without_order position waits t order =
+-- without the waits of some threads
+pub off_order : (position : ℕ) (waits : List Waiter) (off : ℕ → Bool) → InOrder position waits → InOrder position (filter (λ w. not (off w.tid)) waits)
+off_order position waits off order =
     record {
-      before = All-filter (λ w. not (eqb w.tid t)) (λ (w : Waiter). w.at + 1 ≤ position) waits order.before;
-      rising = subst (λ (ps : List Party). IsRising (map party_at ps)) (sym (parties_without t waits)) (rising_filtered party_at (λ p. not (is_tid t p)) (parties waits) order.rising);
+      before = All-filter (λ w. not (off w.tid)) (λ (w : Waiter). w.at + 1 ≤ position) waits order.before;
+      rising = subst (λ (ps : List Party). IsRising (map party_at ps)) (sym (parties_off off waits)) (rising_filtered party_at (λ p. not (off p.tid)) (parties waits) order.rising);
     }
+
+-- without those of one
+pub without_order : (position : ℕ) (waits : List Waiter) (t : ℕ) → InOrder position waits → InOrder position (waits_without t waits)
+without_order position waits t order = off_order position waits (λ u. eqb u t) order
 
 -- after one more entry
 pub later_order : (position : ℕ) (waits : List Waiter) → InOrder position waits → InOrder (position + 1) waits

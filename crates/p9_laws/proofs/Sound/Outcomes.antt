@@ -14,7 +14,8 @@ use Rattle.p9_manual.specs.SoundLocks.{WaitInTurn}
 use Rattle.p9_manual.specs.State.{Move, State, Outcome, placed, readied, same, now, bad, done, waiting}
 use Rattle.p9_manual.specs.Step.{makes_entry}
 use Rattle.p9_manual.specs.Standing.{StandOnce, place_of}
-use Rattle.p9_manual.specs.Sound.{IsSound, IsWithin, InOrder, WaitRightly, CallsMatch, IsThreadIn}
+use Rattle.p9_manual.specs.Sound.{IsSound, IsWithin, InOrder, WaitRightly, CallsMatch, IsThreadIn, AreNotesRead}
+use Rattle.p9_laws.proofs.Pending.{placed_lives, read_on}
 use Rattle.p9_laws.proofs.Sound.InTurn.{placed_in_turn}
 use Rattle.p9_laws.proofs.Sound.Order.{later_order, pushed_order}
 use Rattle.p9_laws.proofs.Sound.Stand.{readied_stands, waiting_stands, members_placed}
@@ -26,9 +27,10 @@ pub record IsSoundSoFar (setup : Setup) (s : State) : Type 0 where
   pub opened : s.opened ≤ setup.places
   pub within : All IsWithin s.chans
   pub order : InOrder s.position s.waits
+  pub notes : AreNotesRead s.procs s.threads
 
 pub so_far : (setup : Setup) (s : State) → IsSound setup s → IsSoundSoFar setup s
-so_far setup s sound = record { stand = sound.stand; members = sound.members; opened = sound.opened; within = sound.within; order = sound.order }
+so_far setup s sound = record { stand = sound.stand; members = sound.members; opened = sound.opened; within = sound.within; order = sound.order; notes = sound.notes }
 
 -- what begins has one of the programs
 abbrev pub BeginsOneOf : ℕ → Reply → Type 0
@@ -66,6 +68,7 @@ later_sound setup s sound =
       in_turn = sound.in_turn;
       order = later_order s.position s.waits sound.order;
       calls = sound.calls;
+      notes = sound.notes;
     }
 
 begins_nothing : (programs : ℕ) (r : Reply) → makes_entry r ≡ false → BeginsOneOf programs r
@@ -108,6 +111,7 @@ readied_sound setup s t a sound runs =
       in_turn = placed_in_turn s.threads s.holds (lock_waiters s.waits) t (Ready a) refl sound.in_turn;
       order = sound.order;
       calls = sound.calls;
+      notes = read_on s.procs s.procs s.threads (placed t (Ready a) s.threads) (λ p. refl) (placed_lives t (Ready a) refl s.threads) sound.notes;
     }
 
 pub done_fine : (setup : Setup) (s : State) (t : ℕ) (a : Answer) → IsSound setup s → RunsIn s t → IsFine setup s.position (done t a s)
@@ -130,6 +134,7 @@ waiting_fine setup s t r sound runs right match' turn =
         in_turn = turn;
         order = pushed_order s.waits (wait_of t r s) sound.order;
         calls = match';
+        notes = read_on s.procs s.procs s.threads (placed t Waiting s.threads) (λ p. refl) (placed_lives t Waiting refl s.threads) sound.notes;
       };
       makes = refl;
       begins = tt;

@@ -28,30 +28,37 @@ parties_push waits w = flat_map-append party_of waits (w ∷ []) ∙ ap (λ ps. 
 pub times_parties_push : (q : Party → Bool) (waits : List Waiter) (w : Waiter) → times q (parties (waits ++ w ∷ [])) ≡ times q (parties waits) + times q (party_of w)
 times_parties_push q waits w = ap (times q) (parties_push waits w) ∙ times-append q (parties waits) (party_of w)
 
-one_without : (t u at : ℕ) (b : Bool) (o : Option Alternation) → eqb u t ≡ b → filter (λ p. not (is_tid t p)) (party_with u at o) ≡ cond b [] (party_with u at o)
-one_without t u at true None h = refl
-one_without t u at false None h = refl
-one_without t u at true (Some a) h = rw h refl
-one_without t u at false (Some a) h = rw h refl
+one_off : (off : ℕ → Bool) (u at : ℕ) (b : Bool) (o : Option Alternation) → off u ≡ b → filter (λ p. not (off p.tid)) (party_with u at o) ≡ cond b [] (party_with u at o)
+one_off off u at true None h = refl
+one_off off u at false None h = refl
+one_off off u at true (Some a) h = rw h refl
+one_off off u at false (Some a) h = rw h refl
 
-without_step : (t : ℕ) (b : Bool) (w : Waiter) (fs ws : List Waiter) → eqb w.tid t ≡ b → parties fs ≡ filter (λ p. not (is_tid t p)) (parties ws) → parties (cond (not b) (w ∷ fs) fs) ≡ filter (λ p. not (is_tid t p)) (party_of w ++ parties ws)
-without_step t true w fs ws h e = rw (filter-append (λ p. not (is_tid t p)) (party_of w) (parties ws), one_without t w.tid w.at true (alternation_of w.request) h) e
-without_step t false w fs ws h e = rw (filter-append (λ p. not (is_tid t p)) (party_of w) (parties ws), one_without t w.tid w.at false (alternation_of w.request) h) (ap (λ ps. party_of w ++ ps) e)
+off_step : (off : ℕ → Bool) (b : Bool) (w : Waiter) (fs ws : List Waiter) → off w.tid ≡ b → parties fs ≡ filter (λ p. not (off p.tid)) (parties ws) → parties (cond (not b) (w ∷ fs) fs) ≡ filter (λ p. not (off p.tid)) (party_of w ++ parties ws)
+off_step off true w fs ws h e = rw (filter-append (λ p. not (off p.tid)) (party_of w) (parties ws), one_off off w.tid w.at true (alternation_of w.request) h) e
+off_step off false w fs ws h e = rw (filter-append (λ p. not (off p.tid)) (party_of w) (parties ws), one_off off w.tid w.at false (alternation_of w.request) h) (ap (λ ps. party_of w ++ ps) e)
 
--- without the waits of t the parties are those of the other threads
-pub parties_without : (t : ℕ) → (waits : List Waiter) → parties (waits_without t waits) ≡ filter (λ p. not (is_tid t p)) (parties waits)
-parties_without t [] = refl
-parties_without t (w ∷ ws) = without_step t (eqb w.tid t) w (waits_without t ws) ws refl (parties_without t ws)
+-- without the waits of some threads the parties are those of the others
+pub parties_off : (off : ℕ → Bool) → (waits : List Waiter) → parties (filter (λ w. not (off w.tid)) waits) ≡ filter (λ p. not (off p.tid)) (parties waits)
+parties_off off [] = refl
+parties_off off (w ∷ ws) = off_step off (off w.tid) w (filter (λ x. not (off x.tid)) ws) ws refl (parties_off off ws)
 
--- no more pass where t was taken out
-pub fewer_left : (q : Party → Bool) (t : ℕ) (waits : List Waiter) → times q (parties (waits_without t waits)) ≤ times q (parties waits)
-fewer_left q t waits =
-    let a = ap (times q) (parties_without t waits) in
-    let b = times_parts q (is_tid t) (parties waits) in
+-- and so without those of one
+pub parties_without : (t : ℕ) (waits : List Waiter) → parties (waits_without t waits) ≡ filter (λ p. not (is_tid t p)) (parties waits)
+parties_without t waits = parties_off (λ u. eqb u t) waits
+
+-- no more pass where some were taken out
+pub fewer_off : (q : Party → Bool) (off : ℕ → Bool) (waits : List Waiter) → times q (parties (filter (λ w. not (off w.tid)) waits)) ≤ times q (parties waits)
+fewer_off q off waits =
+    let a = ap (times q) (parties_off off waits) in
+    let b = times_parts q (λ p. off p.tid) (parties waits) in
     omega (arith, a, b)
 
+pub none_off : (q : Party → Bool) (off : ℕ → Bool) (waits : List Waiter) → times q (parties waits) ≡ 0 → times q (parties (filter (λ w. not (off w.tid)) waits)) ≡ 0
+none_off q off waits h = let k = fewer_off q off waits in omega (arith, k)
+
 pub none_left : (q : Party → Bool) (t : ℕ) (waits : List Waiter) → times q (parties waits) ≡ 0 → times q (parties (waits_without t waits)) ≡ 0
-none_left q t waits h = let k = fewer_left q t waits in omega (arith, k)
+none_left q t waits h = none_off q (λ u. eqb u t) waits h
 
 one_party : (t u at : ℕ) (o : Option Alternation) → times (is_tid t) (party_with u at o) ≤ cond (eqb u t) 1 0
 one_party t u at None = least (eqb u t)

@@ -4,7 +4,8 @@ use Rattle.std.specs.Prelude.{slice_get}
 use Rattle.p9_manual.specs.declared.state.Place.{Place}
 use Rattle.p9_manual.specs.declared.state.Place.TheVariants.{Running, New, Ready, Waiting, Ended}
 use Rattle.p9_manual.specs.declared.state.Thread.{Thread}
-use Rattle.p9_manual.specs.State.{changed, at_place}
+use Rattle.p9_manual.specs.Ends.{Gone, at_end, ended_if}
+use Rattle.p9_manual.specs.State.{changed, at_place, each_from}
 use Rattle.p9_manual.specs.Places.{runs_in, runs_there, is_running}
 use Rattle.p9_manual.specs.Standing.{times, place_in}
 
@@ -18,6 +19,15 @@ pub runs-changed : (p : ℕ) (pl : Place) → (threads : List Thread) (i : ℕ) 
 runs-changed p pl [] i h = omega arith
 runs-changed p pl (x ∷ xs) zero h = let r = at_rest (eqb x.proc_no p) pl h in omega (arith, r)
 runs-changed p pl (x ∷ xs) (suc i) h = omega (arith, runs-changed p pl xs i h)
+
+ended_rests : (p : ℕ) (b : Bool) (x : Thread) → cond {A = ℕ} (runs_in p (cond b (at_end x) x)) 1 0 ≤ cond {A = ℕ} (runs_in p x) 1 0
+ended_rests p true x = let r = at_rest (eqb x.proc_no p) Ended refl in omega (arith, r)
+ended_rests p false x = omega arith
+
+-- nor where some have ended
+pub runs-ended : (ends : Gone) (p : ℕ) → (n : ℕ) (threads : List Thread) → times (runs_in p) (each_from (ended_if ends) n threads) ≤ times (runs_in p) threads
+runs-ended ends p n [] = omega arith
+runs-ended ends p n (x ∷ xs) = let one = ended_rests p (ends n) x in let rest = runs-ended ends p (suc n) xs in omega (arith, one, rest)
 
 at_most_one : (b : Bool) → cond b 1 0 ≤ 1
 at_most_one true = omega arith

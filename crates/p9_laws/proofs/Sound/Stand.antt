@@ -1,6 +1,6 @@
 -- Threads, line and waits after a thread was put somewhere.
-use Rattle.std.proofs.Common.{◌≡◌, ◌≢◌, inl, inr, ℕ, ◌+◌, ◌-◌, ◌≤◌, Bool, true, false, not, cond, eqb, List, [], ◌∷◌, ◌++◌, Option, Some, refl, ap, sym, subst, ◌∙◌, arith, rules, tests}
-use Rattle.std.specs.Prelude.{All}
+use Rattle.std.proofs.Common.{◌≡◌, ◌≢◌, inl, inr, ℕ, ◌+◌, ◌-◌, ◌≤◌, Bool, true, false, not, cond, eqb, List, [], ◌∷◌, ◌++◌, Option, Some, None, refl, ap, sym, subst, ◌∙◌, arith, rules, tests}
+use Rattle.std.specs.Prelude.{All, option_map}
 use Rattle.std.specs.List.{filter, list_any}
 use Rattle.std.proofs.lemmas.Bool.{cases_eq}
 use Rattle.std.proofs.lemmas.List.Elements.{recursion_from_All}
@@ -9,14 +9,16 @@ use Rattle.p9_manual.specs.declared.state.Place.{Place}
 use Rattle.p9_manual.specs.declared.state.Place.TheVariants.{Running, New, Ready, Waiting, Ended}
 use Rattle.p9_manual.specs.declared.state.Thread.{Thread}
 use Rattle.p9_manual.specs.declared.state.Waiter.{Waiter}
+use Rattle.p9_manual.specs.Ends.{Gone, ended_if}
 use Rattle.p9_manual.specs.LockWaits.{lined}
 use Rattle.p9_manual.specs.Places.{runs_in, is_of, is_running}
-use Rattle.p9_manual.specs.State.{by_id, pick, placed, at_place, waits_without}
-use Rattle.p9_manual.specs.Standing.{StandOnce, times, place_of, times_in_line, times_in_waits}
+use Rattle.p9_manual.specs.State.{by_id, each_from, pick, placed, at_place, waits_without}
+use Rattle.p9_manual.specs.Standing.{StandOnce, times, place_in, place_of, times_in_line, times_in_waits}
 use Rattle.p9_manual.specs.Sound.{IsThreadIn}
-use Rattle.p9_laws.proofs.Sound.Counts.{times-push, times_pick, times_none, pick_passes, filter_none, cleared, all_kept, All-changed, held_at}
+use Rattle.p9_laws.proofs.EndedWhere.{by_id-each_from, place-ended_if}
+use Rattle.p9_laws.proofs.Sound.Counts.{times-push, times_pick, times_none, times_left, pick_passes, cleared, all_kept, All-changed, held_at}
 use Rattle.p9_laws.proofs.Sound.Places.{IsMade, made_from_place, place_of-placed_same, place_of-placed_other, get_from_by_id}
-use Rattle.p9_laws.proofs.Sound.Running.{runs-changed, runs-started, runs-started_elsewhere}
+use Rattle.p9_laws.proofs.Sound.Running.{runs-changed, runs-ended, runs-started, runs-started_elsewhere}
 
 pub eqb_same : (t : ℕ) → eqb t t ≡ true
 eqb_same t = search (rules, tests)
@@ -73,18 +75,38 @@ waiting_stands threads line waits w stand runs =
     (stand.in_line w.tid ∙ ap times_in_line runs)
     (rw (times-push (λ x. eqb x.tid w.tid) true waits w (eqb_same w.tid), none) refl)
 
--- a thread that runs stands in no list
-pub line_without : (threads : List Thread) (line : List ℕ) (waits : List Waiter) (t : ℕ) → StandOnce threads line waits → place_of threads t ≡ Running → filter (λ u. not (eqb u t)) line ≡ line
-line_without threads line waits t stand runs = filter_none (λ u. eqb u t) line (stand.in_line t ∙ ap times_in_line runs)
+line_off : (b : Bool) (pl : Place) → cond b 0 (times_in_line pl) ≡ times_in_line (cond b Ended pl)
+line_off true pl = refl
+line_off false pl = refl
 
-pub waits_without_running : (threads : List Thread) (line : List ℕ) (waits : List Waiter) (t : ℕ) → StandOnce threads line waits → place_of threads t ≡ Running → waits_without t waits ≡ waits
-waits_without_running threads line waits t stand runs = filter_none (λ w. eqb w.tid t) waits (stand.in_waits t ∙ ap times_in_waits runs)
+waits_off : (b : Bool) (pl : Place) → cond b 0 (times_in_waits pl) ≡ times_in_waits (cond b Ended pl)
+waits_off true pl = refl
+waits_off false pl = refl
 
--- t, which ran, has ended
-pub ended_stands : (threads : List Thread) (line : List ℕ) (waits : List Waiter) (t : ℕ) → StandOnce threads line waits → place_of threads t ≡ Running → StandOnce (placed t Ended threads) (filter (λ u. not (eqb u t)) line) (waits_without t waits)
-ended_stands threads line waits t stand runs =
-    rw (line_without threads line waits t stand runs, waits_without_running threads line waits t stand runs)
-    (moved threads line line waits waits t Ended stand (made_running threads t runs) (at_rest threads line waits t Ended stand refl) (λ u ne. refl) (λ u ne. refl) (stand.in_line t ∙ ap times_in_line runs) (stand.in_waits t ∙ ap times_in_waits runs))
+-- where a thread is when some have ended
+place_of-ended : (ends : Gone) (threads : List Thread) (t : ℕ) → place_of (each_from (ended_if ends) 1 threads) t ≡ cond (ends t) Ended (place_of threads t)
+place_of-ended ends threads t = ap place_in (by_id-each_from (ended_if ends) threads t) ∙ at_end (by_id threads t)
+  where
+    no_place : (b : Bool) → Ended ≡ cond b Ended Ended
+    no_place true = refl
+    no_place false = refl
+
+    at_end : (o : Option Thread) → place_in (option_map (ended_if ends t) o) ≡ cond (ends t) Ended (place_in o)
+    at_end None = no_place (ends t)
+    at_end (Some x) = place-ended_if ends t x
+
+-- some threads have ended
+pub ended_stands : (ends : Gone) (threads : List Thread) (line : List ℕ) (waits : List Waiter) → StandOnce threads line waits → StandOnce (each_from (ended_if ends) 1 threads) (filter (λ u. not (ends u)) line) (filter (λ w. not (ends w.tid)) waits)
+ended_stands ends threads line waits stand =
+    record {
+      in_line = λ t.
+          times_left (λ u. eqb u t) ends (ends t) (λ u h. ap ends (eqb_equal u t h)) line ∙ ap (λ n. cond {A = ℕ} (ends t) 0 n) (stand.in_line t)
+          ∙ line_off (ends t) (place_of threads t) ∙ ap times_in_line (sym (place_of-ended ends threads t));
+      in_waits = λ t.
+          times_left (λ w. eqb w.tid t) (λ w. ends w.tid) (ends t) (λ w h. ap ends (eqb_equal w.tid t h)) waits ∙ ap (λ n. cond {A = ℕ} (ends t) 0 n) (stand.in_waits t)
+          ∙ waits_off (ends t) (place_of threads t) ∙ ap times_in_waits (sym (place_of-ended ends threads t));
+      one_runs = λ p. let fewer = runs-ended ends p 1 threads in let one = stand.one_runs p in omega (arith, fewer, one);
+    }
 
 -- one more in the line, first or last
 pub times_lined : (q : ℕ → Bool) (held : Bool) (t : ℕ) (line : List ℕ) → times q (lined held t line) ≡ times q line + cond (q t) 1 0

@@ -1,5 +1,6 @@
 -- What the waits are to keep, where one is added, some are taken out or a channel changes.
 use Rattle.std.proofs.Common.{◌≡◌, inl, inr, ◌⊎◌, ℕ, ◌+◌, ◌-◌, ◌≤◌, Bool, true, false, not, cond, eqb, List, [], ◌∷◌, ◌++◌, Option, Some, refl, ap, sym, subst, ◌∙◌, arith}
+use Rattle.std.specs.List.{filter}
 use Rattle.std.proofs.lemmas.Bool.{cases_eq, cases_Bool, or_from}
 use Rattle.std.proofs.lemmas.List.Elements.{All-nil, All-push, All-filter}
 use Rattle.p9_word.specs.declared.request.Request.TheVariants.{Io as IoRequest}
@@ -15,7 +16,7 @@ use Rattle.p9_manual.specs.Standing.{times}
 use Rattle.p9_manual.specs.Sound.{WaitRightly, can_wait, takes_sends, takes_receives}
 use Rattle.p9_laws.proofs.Sound.Places.{by_id-changed_same, by_id-changed_other}
 use Rattle.p9_laws.proofs.Sound.Entries.{waits_either, times_either}
-use Rattle.p9_laws.proofs.Sound.Parties.{fewer_left, none_left, times_parties_push}
+use Rattle.p9_laws.proofs.Sound.Parties.{fewer_off, none_off, times_parties_push}
 
 pub both : {A B C D : Type 0} → (A → C) → (B → D) → A ⊎ B → C ⊎ D
 both f g (inl a) = inl (f a)
@@ -25,18 +26,22 @@ pub nobody_rightly : (chans : List Channel) → WaitRightly chans []
 nobody_rightly chans =
     record { kinds = All-nil (λ (w : Waiter). can_wait w.request ≡ true); sends = λ c h. refl; receives = λ c h. refl; unpaired = λ c. inl refl }
 
--- without the waits of a thread
-pub without_rightly : (chans : List Channel) (waits : List Waiter) (t : ℕ) → WaitRightly chans waits → WaitRightly chans (waits_without t waits)
-without_rightly chans waits t right =
+-- without the waits of some threads
+pub off_rightly : (chans : List Channel) (waits : List Waiter) (off : ℕ → Bool) → WaitRightly chans waits → WaitRightly chans (filter (λ w. not (off w.tid)) waits)
+off_rightly chans waits off right =
     record {
-      kinds = All-filter (λ w. not (eqb w.tid t)) (λ (x : Waiter). can_wait x.request ≡ true) waits right.kinds;
-      sends = λ c h. none_left (sends_on c) t waits (right.sends c h);
-      receives = λ c h. none_left (receives_on c) t waits (right.receives c h);
-      unpaired = λ c. both (none_left (sends_on c) t waits) (both (none_left (receives_on c) t waits) (few c)) (right.unpaired c);
+      kinds = All-filter (λ w. not (off w.tid)) (λ (x : Waiter). can_wait x.request ≡ true) waits right.kinds;
+      sends = λ c h. none_off (sends_on c) off waits (right.sends c h);
+      receives = λ c h. none_off (receives_on c) off waits (right.receives c h);
+      unpaired = λ c. both (none_off (sends_on c) off waits) (both (none_off (receives_on c) off waits) (few c)) (right.unpaired c);
     }
   where
-    few : (c : ℕ) → times (waits_on c) (parties waits) ≤ 1 → times (waits_on c) (parties (waits_without t waits)) ≤ 1
-    few c h = let k = fewer_left (waits_on c) t waits in omega (arith, k, h)
+    few : (c : ℕ) → times (waits_on c) (parties waits) ≤ 1 → times (waits_on c) (parties (filter (λ w. not (off w.tid)) waits)) ≤ 1
+    few c h = let k = fewer_off (waits_on c) off waits in omega (arith, k, h)
+
+-- without those of one
+pub without_rightly : (chans : List Channel) (waits : List Waiter) (t : ℕ) → WaitRightly chans waits → WaitRightly chans (waits_without t waits)
+without_rightly chans waits t right = off_rightly chans waits (λ u. eqb u t) right
 
 -- with other channels
 pub chans_rightly : (chans more : List Channel) (waits : List Waiter) → WaitRightly chans waits → ((c : ℕ) → takes_sends (by_id more c) ≡ true → times (sends_on c) (parties waits) ≡ 0) → ((c : ℕ) → takes_receives (by_id more c) ≡ true → times (receives_on c) (parties waits) ≡ 0) → WaitRightly more waits

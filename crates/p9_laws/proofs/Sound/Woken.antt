@@ -7,10 +7,11 @@ use Rattle.p9_manual.specs.declared.state.Place.TheVariants.{Ready, Waiting}
 use Rattle.p9_manual.specs.declared.state.Thread.{Thread}
 use Rattle.p9_manual.specs.declared.state.Waiter.{Waiter}
 use Rattle.p9_manual.specs.LockWaits.{is_holding, lock_waiters}
-use Rattle.p9_manual.specs.State.{State, waits_without, wake}
+use Rattle.p9_manual.specs.State.{State, placed, waits_without, wake}
 use Rattle.p9_manual.specs.Standing.{StandOnce, times, place_of}
 use Rattle.p9_manual.specs.Sound.{IsSound, CallsMatch}
 use Rattle.p9_laws.proofs.LockWaiters.{is_locker, is_caller, caller_or_locker, locker_waits}
+use Rattle.p9_laws.proofs.Pending.{placed_lives, read_on}
 use Rattle.p9_laws.proofs.Sound.InTurn.{woken_in_turn}
 use Rattle.p9_laws.proofs.Sound.Order.{without_order}
 use Rattle.p9_laws.proofs.Sound.Parties.{WaitsInAlt, times_parties}
@@ -42,6 +43,7 @@ woken_sound_apart setup s t a here match' sound =
       in_turn = woken_in_turn s.threads s.holds s.waits t a sound.in_turn;
       order = without_order s.position s.waits t sound.order;
       calls = match';
+      notes = read_on s.procs s.procs s.threads (placed t (Ready a) s.threads) (λ p. refl) (placed_lives t (Ready a) refl s.threads) sound.notes;
     }
 
 -- one that waits in an alt is woken
