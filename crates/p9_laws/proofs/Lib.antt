@@ -1,8 +1,11 @@
 pub mod Tallies
 pub mod Standing
+pub mod EndedWhere
+pub mod Pending
 pub mod Asked
 pub mod AskedChans
 pub mod AskedLocks
+pub mod AskedSignals
 pub mod LocksLeave
 pub mod Groups
 pub mod RunMoves
@@ -13,6 +16,7 @@ pub mod RunChans
 pub mod RunLocks
 pub mod RunCreate
 pub mod RunEnds
+pub mod RunSignals
 pub mod RunAsked
 pub mod RunTurns
 pub mod RunSteps
@@ -31,3 +35,4 @@ pub mod OneProc
 pub mod LockSetups
 pub mod Moves
 pub mod Received
+pub mod Given

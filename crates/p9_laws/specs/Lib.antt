@@ -1,11 +1,15 @@
+pub mod AltCauses
 pub mod AltExamples
 pub mod ChannelExamples
+pub mod ClosedCauses
 pub mod ClosingExample
+pub mod Causes
 pub mod Communications
 pub mod CopyExample
 pub mod CopySetup
 pub mod Ending
 pub mod Shorthand
+pub mod Given
 pub mod IoReplies
 pub mod LastCall
 pub mod LockExamples
@@ -14,6 +18,7 @@ pub mod Receipts
 pub mod Refusals
 pub mod RunReplies
 pub mod Senders
+pub mod SignalExamples
 pub mod StuckReplies
 pub mod ThreadExamples
 pub mod ToldSent

@@ -10,6 +10,9 @@ ghost use Rattle.p9_laws.specs.AltExamples.{ready_setup, one_ready, ShowsNoChoic
 ghost use Rattle.p9_laws.specs.ClosingExample.{closing_setup, closed_under, ShowsTheClosing};
 ghost use Rattle.p9_laws.specs.LockExamples.{rendez_setup, slept_and_woken, ShowsTheSleep};
 ghost use Rattle.p9_laws.specs.LockExamples.{meeting_setup, met, ShowsTheMeeting, alone_setup, never_met, ShowsTheHeldProc};
+ghost use Rattle.p9_laws.specs.SignalExamples.{interrupt_setup, interrupted_once, ShowsTheInterrupt};
+ghost use Rattle.p9_laws.specs.SignalExamples.{kill_setup, killed_with_a_lock, ShowsTheKill};
+ghost use Rattle.p9_laws.specs.SignalExamples.{note_setup, killed_by_a_note, caught_note, ShowsTheNote};
 
 /// The copy of a file of the two bytes `hi` is a legal history of a copy's setup.
 pub fn copying_two_bytes_is_legal()
@@ -105,4 +108,40 @@ pub fn meeting_in_one_proc_is_stuck()
 /// It is so though the second thread is ready, since its proc is held.
 pub fn meeting_in_one_proc_leaves_a_thread_ready()
     ensures { ShowsTheHeldProc }
+{}
+
+/// A thread that waits in an alt is interrupted, is told so at its turn, and waits again: a legal history.
+pub fn interrupting_a_thread_is_legal()
+    ensures { IsLegal interrupt_setup interrupted_once }
+{}
+
+/// Its wait is ended once, and nothing of the interrupt ends its next one.
+pub fn interrupting_a_thread_ends_one_wait()
+    ensures { ShowsTheInterrupt }
+{}
+
+/// A thread that holds a QLock is killed with its group, has its turn, ends at its next request that lets others run, and so
+/// the run is stuck: a legal history.
+pub fn killing_a_group_is_legal()
+    ensures { IsLegal kill_setup killed_with_a_lock }
+{}
+
+/// It holds the QLock still, and another thread waits for it.
+pub fn killing_a_group_frees_no_lock()
+    ensures { ShowsTheKill }
+{}
+
+/// A note that no handler catches ends all threads of its proc: a legal history.
+pub fn dying_by_a_note_is_legal()
+    ensures { IsLegal note_setup killed_by_a_note }
+{}
+
+/// The proc's turns are over then.
+pub fn dying_by_a_note_ends_the_turns()
+    ensures { ShowsTheNote }
+{}
+
+/// A note that a handler catches is told at a turn, and the thread goes on at the next one: a legal history.
+pub fn catching_a_note_is_legal()
+    ensures { IsLegal note_setup caught_note }
 {}

@@ -5,6 +5,7 @@
 //! that are worked out as examples.
 #![tactic(auto)]
 
+pub mod answers;
 pub mod communications;
 pub mod ending;
 pub mod examples;

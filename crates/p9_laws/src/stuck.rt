@@ -16,18 +16,18 @@ pub fn stuck_has_its_cause()
     ensures { (setup : Setup) (s : State) → StuckCause setup s }
 {}
 
-/// There it is told Stuck, if the line has exactly the ready threads.
+/// There it is told Stuck, if the line has exactly the ready threads, and no note is pending where no thread lives.
 pub fn stuck_is_told()
     ensures { (setup : Setup) (s : State) → StuckTold setup s }
 {}
 
 /// Where a thread lives, the run isn't at its end and the state isn't stuck, some event makes an entry that isn't
-/// Stuck, if the line has exactly the ready threads.
+/// Stuck, if the line has exactly the ready threads, and no note is pending where no thread lives.
 pub fn unstuck_moves()
     ensures { (setup : Setup) (s : State) → UnstuckMoves setup s }
 {}
 
-/// After each legal history of a valid setup the line has exactly the ready threads.
+/// After each legal history of a valid setup the line has exactly the ready threads, and no note is pending where no thread lives.
 pub fn lines_have_the_ready()
     ensures { (setup : Setup) (entries : List Entry) → LinedAfter setup entries }
 {}

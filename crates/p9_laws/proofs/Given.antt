@@ -1,0 +1,19 @@
+-- Which entry gave a thread the answer that it is told at its turn.
+pub mod Goes
+pub mod Causes
+pub mod Replies
+pub mod Signals
+pub mod Deals
+pub mod Locks
+pub mod Requests
+pub mod Steps
+pub mod Entries
+pub mod Histories
+pub mod Tells
+pub mod Served
+pub mod Givers
+pub mod Later
+pub mod Interrupted
+pub mod NoBlocks
+pub mod Closing
+pub mod ClosedExactly
