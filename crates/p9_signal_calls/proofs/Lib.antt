@@ -1,0 +1,12 @@
+pub mod Calling
+pub mod EachMember
+pub mod Interrupting
+pub mod Lists
+pub mod Marked
+pub mod Members
+pub mod Noting
+pub mod Posting
+pub mod Serving
+pub mod Standing
+pub mod Waits
+pub mod Woken

@@ -1,0 +1,4 @@
+pub mod Affects
+pub mod Fit
+pub mod Memory
+pub mod Serves
