@@ -12,6 +12,7 @@ use Rattle.p9_manual.specs.declared.state.Ioproc.TheVariants.{Unmade}
 use Rattle.p9_manual.specs.declared.state.Thread.{Thread}
 use Rattle.p9_manual.specs.Create.{with_thread}
 use Rattle.p9_manual.specs.History.{ids_from, new_thread, new_proc, begin_state}
+use Rattle.p9_manual.specs.NoteCalls.{noted}
 use Rattle.p9_manual.specs.Places.{runs_in}
 use Rattle.p9_manual.specs.Standing.{StandOnce, times, place_of, place_in, times_in_line, times_in_waits}
 use Rattle.p9_manual.specs.State.{State, Proc, by_id, changed}
@@ -20,7 +21,9 @@ use Rattle.p9_manual.specs.Draws.{generator_after}
 use Rattle.p9_io.specs.Calls.{begun_count}
 use Rattle.p9_sched.specs.Holding.{held_in}
 use Rattle.p9_sched.specs.Schedule.{Schedule, IsPlace, line_in, begin_schedule}
-use Rattle.p9_sched.specs.Stands.{SchedFor, proc_with}
+use Rattle.p9_sched.specs.Stands.{SchedFor}
+use Rattle.p9_note.specs.For.{NotesFor, bare}
+use Rattle.p9_note.specs.ProcNotes.{no_notes}
 use Rattle.p9_machine.specs.Begin.{with_first}
 
 changed_last : {A : Type 0} (f : A → A) → (xs : List A) (x : A) → changed f (xs ++ x ∷ []) (length xs) ≡ xs ++ f x ∷ []
@@ -113,16 +116,16 @@ length_same : {A : Type 0} (n : ℕ) (x : A) → length (replicate n x) ≡ n
 length_same zero x = refl
 length_same (suc n) x = ap suc (length_same n x)
 
-words_none : (n : ℕ) → replicate n new_proc ≡ map proc_with (replicate n 0)
+words_none : (n : ℕ) → map (λ (p : Proc). p.word) (replicate n new_proc) ≡ replicate n 0
 words_none zero = refl
-words_none (suc n) = ap (λ (xs : List Proc). new_proc ∷ xs) (words_none n)
+words_none (suc n) = ap (λ (xs : List ℕ). 0 ∷ xs) (words_none n)
 
 -- no thread was made yet
 pub none_stand : (setup : Setup) (s : Schedule) → s ≡ begin_schedule setup.places setup.opened → SchedFor setup.places s (first_state setup [])
 none_stand setup s e = rw e (record {
   threads = refl;
   lines = record { part = λ p a b. empty_if (nat_lt 0 p) setup.places (p - 1) };
-  procs = words_none setup.places;
+  words = words_none setup.places;
   opened = refl;
   count = length_same setup.places [];
   held = record { held = λ p a b. unheld_if (nat_lt 0 p) setup.places (p - 1) };
@@ -173,3 +176,11 @@ none_drawn start = refl
 pub none_begun : (files : ℕ) → begun_count (replicate files Unmade) ≡ 0
 none_begun zero = refl
 none_begun (suc n) = let h = none_begun n in omega arith
+
+noted_none : (n : ℕ) → map noted (replicate n new_proc) ≡ map bare (replicate n no_notes)
+noted_none zero = refl
+noted_none (suc n) = ap (λ (xs : List (List (ℕ × List ℕ) × List (List ℕ))). ([], []) ∷ xs) (noted_none n)
+
+-- no proc has a handler or a pending note
+pub none_noted : (setup : Setup) → NotesFor setup.places (replicate setup.places no_notes) (begin_state setup)
+none_noted setup = record { procs = noted_none setup.places; count = length_same setup.places no_notes }

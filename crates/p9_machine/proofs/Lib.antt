@@ -3,6 +3,7 @@ pub mod Dispatch
 pub mod Ending
 pub mod Keeps
 pub mod Laws
+pub mod Noting
 pub mod OutOfAlts
 pub mod Picked
 pub mod Told

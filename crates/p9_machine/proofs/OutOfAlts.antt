@@ -3,7 +3,7 @@ use Rattle.std.proofs.Common.{◌≡◌, Bool, true, false, cond, List, [], ◌�
 use Rattle.std.specs.Prelude.{is_none}
 use Rattle.std.specs.List.{filter}
 use Rattle.p9_word.specs.declared.request.Request.{Request}
-use Rattle.p9_word.specs.declared.request.Request.TheVariants.{Thread as ThreadRequest, Chan as ChanRequest, Lock as LockRequest, Io as IoRequest}
+use Rattle.p9_word.specs.declared.request.Request.TheVariants.{Thread as ThreadRequest, Signal as SignalRequest, Chan as ChanRequest, Lock as LockRequest, Io as IoRequest}
 use Rattle.p9_manual.specs.declared.locks.LockWaiter.{LockWaiter}
 use Rattle.p9_manual.specs.declared.state.Waiter.{Waiter}
 use Rattle.p9_manual.specs.LockWaits.{lock_wait_of, lock_waiter, lock_waiter_of, lock_waiters}
@@ -13,6 +13,7 @@ use Rattle.p9_chan_calls.specs.Serves.{is_in_call}
 -- an alt is no wait at a lock
 alt_no_lock : (r : Request) → is_none (alternation_of r) ≡ false → lock_wait_of r ≡ None
 alt_no_lock (ThreadRequest r) h = refl
+alt_no_lock (SignalRequest r) h = refl
 alt_no_lock (ChanRequest r) h = refl
 alt_no_lock (LockRequest r) h = absurd (cc h)
 alt_no_lock (IoRequest r) h = refl

@@ -1,5 +1,5 @@
 -- What happens where a thread is to run.
-use Rattle.std.proofs.Common.{◌≡◌, ℕ, zero, suc, ◌+◌, ◌-◌, ◌≤◌, Bool, true, false, not, cond, ◌&&◌, ◌||◌, List, [], ◌∷◌, Option, Some, None, MatchOption, inl, inr, ◌⊎◌, refl, ap, sym, subst, ◌∙◌, arith, rules, tests}
+use Rattle.std.proofs.Common.{◌≡◌, ℕ, zero, suc, ◌+◌, ◌-◌, ◌<◌, ◌≤◌, Bool, true, false, not, cond, ◌&&◌, ◌||◌, List, [], ◌∷◌, length, map, Option, Some, None, MatchOption, inl, inr, ◌⊎◌, refl, ap, sym, subst, ◌∙◌, arith, rules, tests}
 use Rattle.std.proofs.lemmas.List.Elements.{All-head, All-tail}
 use Rattle.std.specs.Prelude.{All, option_map, slice_get, nat_lt, nat_le, nat_eq, is_some, if◌then◌else◌}
 use Rattle.std.specs.List.{filter, list_any}
@@ -9,18 +9,19 @@ use Rattle.p9_word.specs.declared.trail.Reply.TheVariants.{Stray, Over}
 use Rattle.p9_manual.specs.declared.state.Place.{Place as Stand}
 use Rattle.p9_manual.specs.declared.state.Place.TheVariants as stand
 use Rattle.p9_manual.specs.declared.state.Thread.{Thread}
-use Rattle.p9_manual.specs.State.{State, Outcome, by_id, pick, same}
+use Rattle.p9_manual.specs.State.{State, Outcome, Proc, by_id, pick, same}
 use Rattle.p9_manual.specs.Places.{has_call, is_of, lives, lives_in, runs, runs_in, runs_there}
 use Rattle.p9_manual.specs.Sound.{IsSound, IsThreadIn}
 use Rattle.p9_manual.specs.Standing.{times}
 use Rattle.p9_manual.specs.Stuck.{can_run as state_can_run, is_stuck}
 use Rattle.p9_manual.specs.Held.{is_held as state_is_held}
-use Rattle.p9_manual.specs.Next.{is_place, is_over, first_ready, started, turn, turn_reply, next_of, next_event}
+use Rattle.p9_manual.specs.Next.{is_place, is_over, first_ready, note_first, started, turn, turn_reply, next_of, next_event}
+use Rattle.p9_manual.specs.NoteCalls.{has_note, next_note, noted}
 use Rattle.p9_manual.specs.Step.{makes_entry}
 use Rattle.p9_sched.specs.declared.turns.Ready.{Ready}
 use Rattle.p9_sched.specs.declared.turns.Ready.TheVariants.{New, Old}
 use Rattle.p9_sched.specs.Holding.{is_held}
-use Rattle.p9_sched.specs.Schedule.{Schedule, IsPlace, line_of}
+use Rattle.p9_sched.specs.Schedule.{Schedule, IsMade, IsPlace, line_of}
 use Rattle.p9_sched.specs.Stands.{SchedFor, Tracks, after_next}
 use Rattle.p9_sched.specs.Turns.{can_run, ready_at, ready_of, turn_of, next_in}
 use Rattle.p9_machine.specs.declared.board.Board.{Board}
@@ -37,6 +38,7 @@ of_proc p s t = is_of p (by_id s.threads t)
 pub record IsTurn (s : State) (found : Option (ℕ × List ℕ)) (ready : Ready) : Type 0 where
   pub told : turn_told ready ≡ (next_of s found).reply
   pub others : (next_of s found).state ≡ record s { threads = (next_of s found).state.threads; line = (next_of s found).state.line; procs = (next_of s found).state.procs; opened = (next_of s found).state.opened }
+  pub procs : (next_of s found).state.procs ≡ s.procs
 
 told_at : (t program arg : ℕ) (ready : Ready) (pl : Stand) → Some ready ≡ ready_at t program arg pl → turn_told ready ≡ turn_reply t (program, arg, pl)
 told_at t program arg ready stand.New e = let r : ready ≡ New t program arg = cc in ap turn_told r
@@ -53,10 +55,15 @@ turn_leaves : (t : ℕ) (s : State) (line : List ℕ) (o : Option (ℕ × ℕ ×
 turn_leaves t s line None = refl
 turn_leaves t s line (Some start) = refl
 
+turn_keeps : (t : ℕ) (s : State) (o : Option (ℕ × ℕ × Stand)) → (turn t s o).state.procs ≡ s.procs
+turn_keeps t s None = refl
+turn_keeps t s (Some start) = refl
+
 is_turn : (s : State) (t : ℕ) (line : List ℕ) (ready : Ready) → Some ready ≡ ready_of t (by_id s.threads t) → IsTurn s (Some (t, line)) ready
 is_turn s t line ready e = record {
   told = told_is t (record s { line = line }) ready (by_id s.threads t) e;
   others = turn_leaves t s line (option_map started (by_id s.threads t));
+  procs = turn_keeps t (record s { line = line }) (option_map started (by_id s.threads t));
 }
 
 -- a held proc gives no turn
@@ -95,7 +102,7 @@ turn_in_line board s p ready n place e st =
 pub turned : (board : Board) (s : State) (p : ℕ) (ready : Ready) (n : Schedule) → IsPlace p board.sched → (Some ready, n) ≡ next_in p board.sched → Tracks (after_next p) board.sched n → Stands board s → Gives s (next_of s (first_ready p s)) (turn_told ready) (record board { sched = n })
 turned board s p ready n place e tracks st =
     let t = turn_in_line board s p ready n place e st in
-    moved (record board { sched = n }) s _ (turn_told ready) t.told (turn_makes ready) (with_sched board n s _ t.others (tracks board.setup.places s st.sched) st)
+    moved (record board { sched = n }) s _ (turn_told ready) t.told (turn_makes ready) (with_sched board n s _ t.others (ap (λ (ps : List Proc). map noted ps) t.procs) (tracks board.setup.places s st.sched) st)
 
 either_same : {A : Type 0} (b : Bool) (x y : A) → y ≡ x → cond b x y ≡ x
 either_same true x y e = refl
@@ -155,6 +162,22 @@ pub some_runs : (p : ℕ) (threads : List Thread) (o : Option ℕ) → MatchOpti
 some_runs p threads None h = h
 some_runs p threads (Some t) h = any_if (nat_lt 0 t) p threads (t - 1) h
 
+got_there : (p : ℕ) (threads : List Thread) (i : ℕ) → runs_there p (slice_get threads i) ≡ true → i < length threads
+got_there p [] i h = absurd (cc h)
+got_there p (x ∷ xs) zero h = omega arith
+got_there p (x ∷ xs) (suc i) h = let more = got_there p xs i h in omega arith
+
+made_if : (b : Bool) (p t : ℕ) (sched : Schedule) → nat_lt 0 t ≡ b → runs_there p (cond b (slice_get sched.threads (t - 1)) None) ≡ true → IsMade t sched
+made_if true p t sched e h =
+    let from : 0 < t = search (rules, tests) in
+    let more = got_there p sched.threads (t - 1) h in
+    record { from = omega arith; to = omega arith }
+made_if false p t sched e h = absurd (cc h)
+
+-- a thread that runs in a proc was made
+pub made_of : (p t : ℕ) (sched : Schedule) → runs_there p (by_id sched.threads t) ≡ true → IsMade t sched
+made_of p t sched h = made_if (nat_lt 0 t) p t sched refl h
+
 off_by : (b c d : Bool) (s : State) (o : Outcome) → b ≡ false → cond (not b) (same Stray s) (cond c (same Over s) (cond d (same Stray s) o)) ≡ same Stray s
 off_by b c d s o e = rw e refl
 
@@ -170,19 +193,19 @@ runs_by b c d s o e f g = rw (e, f, g) refl
 -- what a proc's event comes to
 pub next_off : (setup : Setup) (p : ℕ) (s : State) → is_place setup p ≡ false → next_event setup p s ≡ same Stray s
 unfolding next_event
-next_off setup p s e = off_by (is_place setup p) (is_over p s) (list_any (runs_in p) s.threads) s (next_of s (first_ready p s)) e
+next_off setup p s e = off_by (is_place setup p) (is_over p s) (list_any (runs_in p) s.threads) s (note_first p s (next_note p s)) e
 
 pub next_over : (setup : Setup) (p : ℕ) (s : State) → is_place setup p ≡ true → is_over p s ≡ true → next_event setup p s ≡ same Over s
 unfolding next_event
-next_over setup p s e f = over_by (is_place setup p) (is_over p s) (list_any (runs_in p) s.threads) s (next_of s (first_ready p s)) e f
+next_over setup p s e f = over_by (is_place setup p) (is_over p s) (list_any (runs_in p) s.threads) s (note_first p s (next_note p s)) e f
 
 pub next_stray : (setup : Setup) (p : ℕ) (s : State) → is_place setup p ≡ true → is_over p s ≡ false → list_any (runs_in p) s.threads ≡ true → next_event setup p s ≡ same Stray s
 unfolding next_event
-next_stray setup p s e f g = stray_by (is_place setup p) (is_over p s) (list_any (runs_in p) s.threads) s (next_of s (first_ready p s)) e f g
+next_stray setup p s e f g = stray_by (is_place setup p) (is_over p s) (list_any (runs_in p) s.threads) s (note_first p s (next_note p s)) e f g
 
-pub next_runs : (setup : Setup) (p : ℕ) (s : State) → is_place setup p ≡ true → is_over p s ≡ false → list_any (runs_in p) s.threads ≡ false → next_event setup p s ≡ next_of s (first_ready p s)
+pub next_runs : (setup : Setup) (p : ℕ) (s : State) → is_place setup p ≡ true → is_over p s ≡ false → list_any (runs_in p) s.threads ≡ false → next_event setup p s ≡ note_first p s (next_note p s)
 unfolding next_event
-next_runs setup p s e f g = runs_by (is_place setup p) (is_over p s) (list_any (runs_in p) s.threads) s (next_of s (first_ready p s)) e f g
+next_runs setup p s e f g = runs_by (is_place setup p) (is_over p s) (list_any (runs_in p) s.threads) s (note_first p s (next_note p s)) e f g
 
 -- whether a thread can run
 can_run_as : (places : ℕ) (setup : Setup) (sched : Schedule) (s : State) (x : Thread) → IsThreadIn s.opened setup.programs x → s.opened ≤ places → SchedFor places sched s → can_run sched x ≡ state_can_run s x
@@ -204,33 +227,43 @@ pub some_can_run : (setup : Setup) (sched : Schedule) (s : State) → SchedFor s
 some_can_run setup sched s h sound = rw (sym h.threads) (any_can_run setup.places setup sched s sound.opened h s.threads sound.members)
 
 -- a run is stuck by what the parts say
-stuck_value : (board : Board) (s : State) → Stands board s → IsSound board.setup s → is_stuck s ≡ (list_any lives board.sched.threads && not (list_any runs board.sched.threads) && not (list_any (can_run board.sched) board.sched.threads) && not (list_any has_call board.io.ioprocs))
+stuck_value : (board : Board) (s : State) → Stands board s → IsSound board.setup s → is_stuck s ≡ (list_any lives board.sched.threads && not (list_any runs board.sched.threads) && not (list_any (can_run board.sched) board.sched.threads) && not (list_any has_call board.io.ioprocs) && not (list_any has_note s.procs))
 stuck_value board s st sound = rw (some_can_run board.setup board.sched s st.sched sound, sym st.sched.threads, sym st.io.ioprocs) refl
 
-dead_off : (a b r h : Bool) → a ≡ false → (a && not b && not r && not h) ≡ false
-dead_off a b r h e = rw e refl
+dead_off : (a b r h n : Bool) → a ≡ false → (a && not b && not r && not h && not n) ≡ false
+dead_off a b r h n e = rw e refl
 
-running_off : (a b r h : Bool) → b ≡ true → (a && not b && not r && not h) ≡ false
-running_off true b r h e = rw e refl
-running_off false b r h e = refl
+running_off : (a b r h n : Bool) → b ≡ true → (a && not b && not r && not h && not n) ≡ false
+running_off true b r h n e = rw e refl
+running_off false b r h n e = refl
 
-ready_off : (a b r h : Bool) → r ≡ true → (a && not b && not r && not h) ≡ false
-ready_off true true r h e = refl
-ready_off true false r h e = rw e refl
-ready_off false b r h e = refl
+ready_off : (a b r h n : Bool) → r ≡ true → (a && not b && not r && not h && not n) ≡ false
+ready_off true true r h n e = refl
+ready_off true false r h n e = rw e refl
+ready_off false b r h n e = refl
 
-calls_left : (a b r h : Bool) → a ≡ true → b ≡ false → r ≡ false → (a && not b && not r && not h) ≡ not h
-calls_left a b r h ea eb er = rw (ea, eb, er) refl
+calls_off : (a b r h n : Bool) → h ≡ true → (a && not b && not r && not h && not n) ≡ false
+calls_off true true r h n e = refl
+calls_off true false true h n e = refl
+calls_off true false false h n e = rw e refl
+calls_off false b r h n e = refl
 
--- no thread lives; one runs; one can run; else it is stuck unless an ioproc has a call
+notes_left : (a b r h n : Bool) → a ≡ true → b ≡ false → r ≡ false → h ≡ false → (a && not b && not r && not h && not n) ≡ not n
+notes_left a b r h n ea eb er eh = rw (ea, eb, er, eh) refl
+
+-- no thread lives; one runs; one can run; an ioproc has a call; else it is stuck unless a note is pending
 pub stuck_dead : (board : Board) (s : State) → Stands board s → IsSound board.setup s → list_any lives board.sched.threads ≡ false → false ≡ is_stuck s
-stuck_dead board s st sound e = sym (stuck_value board s st sound ∙ dead_off _ _ _ _ e)
+stuck_dead board s st sound e = sym (stuck_value board s st sound ∙ dead_off _ _ _ _ _ e)
 
 pub stuck_running : (board : Board) (s : State) → Stands board s → IsSound board.setup s → list_any runs board.sched.threads ≡ true → false ≡ is_stuck s
-stuck_running board s st sound e = sym (stuck_value board s st sound ∙ running_off (list_any lives board.sched.threads) _ _ _ e)
+stuck_running board s st sound e = sym (stuck_value board s st sound ∙ running_off (list_any lives board.sched.threads) _ _ _ _ e)
 
 pub stuck_ready : (board : Board) (s : State) → Stands board s → IsSound board.setup s → list_any (can_run board.sched) board.sched.threads ≡ true → false ≡ is_stuck s
-stuck_ready board s st sound e = sym (stuck_value board s st sound ∙ ready_off (list_any lives board.sched.threads) (list_any runs board.sched.threads) _ _ e)
+stuck_ready board s st sound e = sym (stuck_value board s st sound ∙ ready_off (list_any lives board.sched.threads) (list_any runs board.sched.threads) _ _ _ e)
 
-pub stuck_calls : (board : Board) (s : State) (h : Bool) → Stands board s → IsSound board.setup s → list_any lives board.sched.threads ≡ true → list_any runs board.sched.threads ≡ false → list_any (can_run board.sched) board.sched.threads ≡ false → h ≡ list_any has_call board.io.ioprocs → not h ≡ is_stuck s
-stuck_calls board s h st sound a b r e = ap not e ∙ sym (stuck_value board s st sound ∙ calls_left _ _ _ (list_any has_call board.io.ioprocs) a b r)
+pub stuck_calls : (board : Board) (s : State) → Stands board s → IsSound board.setup s → list_any has_call board.io.ioprocs ≡ true → false ≡ is_stuck s
+stuck_calls board s st sound e =
+    sym (stuck_value board s st sound ∙ calls_off (list_any lives board.sched.threads) (list_any runs board.sched.threads) (list_any (can_run board.sched) board.sched.threads) _ _ e)
+
+pub stuck_notes : (board : Board) (s : State) (n : Bool) → Stands board s → IsSound board.setup s → list_any lives board.sched.threads ≡ true → list_any runs board.sched.threads ≡ false → list_any (can_run board.sched) board.sched.threads ≡ false → list_any has_call board.io.ioprocs ≡ false → n ≡ list_any has_note s.procs → not n ≡ is_stuck s
+stuck_notes board s n st sound a b r h e = ap not e ∙ sym (stuck_value board s st sound ∙ notes_left _ _ _ _ (list_any has_note s.procs) a b r h)

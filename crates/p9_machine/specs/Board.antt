@@ -1,5 +1,5 @@
 -- What a machine's board stands for: each part stands for its share of a state. A new part adds one line to `Stands`.
-use Rattle.std.specs.Prelude.{ℕ, ◌≡◌, ◌+◌, ◌≤◌, Bool, true, false}
+use Rattle.std.specs.Prelude.{ℕ, ◌≡◌, ◌+◌, ◌≤◌, Bool, true, false, length}
 use Rattle.p9_word.specs.declared.trail.Event.{Event}
 use Rattle.p9_word.specs.declared.trail.Reply.{Reply}
 use Rattle.p9_word.specs.declared.trail.Seat.{Seat}
@@ -15,6 +15,7 @@ use Rattle.p9_alt.specs.For.{AltsFor}
 use Rattle.p9_lock.specs.Stands.{LocksFor}
 use Rattle.p9_io.specs.Calls.{begun_count}
 use Rattle.p9_io.specs.Stands.{IoFor}
+use Rattle.p9_note.specs.For.{NotesFor}
 use Rattle.p9_machine.specs.declared.board.Board.{Board}
 use Rattle.p9_machine.specs.Shown.{rooms_after}
 
@@ -24,6 +25,7 @@ pub record Stands (board : Board) (s : State) : Type 0 where
   pub alts : AltsFor board.alts s
   pub locks : LocksFor board.setup.rendezes board.locks s
   pub io : IoFor board.io s
+  pub notes : NotesFor board.setup.places board.notes s
   pub draws : board.generator ≡ generator_after board.setup.start s.draws
   pub position : s.position ≡ board.position
   pub over : s.over ≡ board.over
@@ -31,6 +33,10 @@ pub record Stands (board : Board) (s : State) : Type 0 where
 -- it stands for a state that is sound
 abbrev pub IsBoard : Board → Type 0
 IsBoard board = (s : State) × (Stands board s × IsSound board.setup s)
+
+-- there are notes for each proc place
+abbrev pub HasPlaces : Board → Type 0
+HasPlaces board = length board.notes ≡ length board.sched.lines
 
 -- thread t runs
 abbrev pub IsRunning : ℕ → Schedule → Type 0

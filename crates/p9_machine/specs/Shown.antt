@@ -7,7 +7,7 @@ use Rattle.p9_word.specs.declared.trail.Event.{Event}
 use Rattle.p9_word.specs.declared.trail.Event.TheVariants.{Call, Next, IoTake, IoDid}
 use Rattle.p9_word.specs.declared.trail.Entry.{Entry}
 use Rattle.p9_word.specs.declared.trail.Reply.{Reply}
-use Rattle.p9_word.specs.declared.trail.Reply.TheVariants.{Now, Waits, Ended, Begin, Turn, Idle, Over, Stuck, Stray, Took, Noted}
+use Rattle.p9_word.specs.declared.trail.Reply.TheVariants.{Took}
 use Rattle.p9_word.specs.declared.io_call.IoCall.{IoCall}
 use Rattle.p9_manual.specs.State.{State, by_id, changed}
 use Rattle.p9_manual.specs.Step.{step}
@@ -43,16 +43,7 @@ IsReserved seat event reserved = is_told event ≡ false → reserved ≡ Some (
 -- a call that begins has its buffer here
 abbrev pub rooms_after : Seat → Reply → List Bool → List Bool
 rooms_after (Io k) (Took call) rooms = changed (λ _. true) rooms (k - 1)
-rooms_after (Io k) (Now a) rooms = rooms
-rooms_after (Io k) Waits rooms = rooms
-rooms_after (Io k) Ended rooms = rooms
-rooms_after (Io k) (Begin t program arg) rooms = rooms
-rooms_after (Io k) (Turn t a) rooms = rooms
-rooms_after (Io k) Idle rooms = rooms
-rooms_after (Io k) Over rooms = rooms
-rooms_after (Io k) Stuck rooms = rooms
-rooms_after (Io k) Stray rooms = rooms
-rooms_after (Io k) Noted rooms = rooms
+rooms_after (Io k) reply rooms = rooms
 rooms_after (Proc p) reply rooms = rooms
 
 -- the machine after an event with this reply

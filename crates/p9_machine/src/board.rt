@@ -6,6 +6,7 @@ ghost use Rattle.p9_alt.specs.For.{AltsFor};
 ghost use Rattle.p9_io.specs.Calls.{begun_count};
 ghost use Rattle.p9_io.specs.Stands.{IoFor};
 ghost use Rattle.p9_lock.specs.Stands.{LocksFor};
+ghost use Rattle.p9_note.specs.For.{NotesFor};
 ghost use Rattle.p9_sched.specs.Schedule.{IsPlace};
 ghost use Rattle.p9_sched.specs.Stands.{SchedFor};
 ghost use Rattle.p9_machine.specs.Board.{Stands, calls_of};
@@ -14,6 +15,7 @@ ghost use Rattle.p9_machine.specs.Begin.{StandsFirst};
 use p9_alt::Alts;
 use p9_io::IoBoard;
 use p9_lock::Locks;
+use p9_note::Notes;
 use p9_sched::Sched;
 use p9_word::limits::{MOST_CHANNELS, MOST_THREADS};
 use p9_word::{ChanSetup, Datum, NoMemory, Setup, ThreadSetup};
@@ -33,6 +35,8 @@ pub(crate) struct Board {
     pub(crate) locks: Locks,
     /// The ioprocs with their buffers. Each has the thread that waits for its call.
     pub(crate) io: IoBoard,
+    /// The handlers and the pending notes of the procs.
+    pub(crate) notes: Notes,
     /// What makes the draws by which alts choose.
     pub(crate) generator: Pcg32,
     /// The position of the next entry of the trail.
@@ -118,6 +122,14 @@ fn begin_io(alloc: Global, setup: &Setup) -> Result<IoBoard, NoMemory>
     IoBoard::new(alloc, setup.files)
 }
 
+/// The procs at the start, with no handler and no pending note.
+#[tactic(auto, using(crate::proofs::Beginning::none_noted))]
+fn begin_notes(alloc: Global, setup: &Setup) -> Result<Notes, NoMemory>
+    ensures { IfOk result (λ n. NotesFor setup.now.places n (begin_state setup.now)) }
+{
+    Notes::new(alloc, setup.places)
+}
+
 /// What draws the words of the run, before the first one.
 #[tactic(auto, using(crate::proofs::Beginning::none_drawn))]
 fn begin_generator(setup: &Setup) -> Pcg32
@@ -138,6 +150,7 @@ fn begin_parts(alloc: Global, setup: Setup) -> Result<Board, NoMemory>
     let alts = begin_alts(alloc, &setup)?;
     let locks = begin_locks(alloc, &setup)?;
     let io = begin_io(alloc, &setup)?;
+    let notes = begin_notes(alloc, &setup)?;
     let generator = begin_generator(&setup);
     Ok(Board {
         setup,
@@ -145,6 +158,7 @@ fn begin_parts(alloc: Global, setup: Setup) -> Result<Board, NoMemory>
         alts,
         locks,
         io,
+        notes,
         generator,
         position: 0,
         over: false,

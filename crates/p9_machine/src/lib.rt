@@ -4,7 +4,8 @@
 //! gives the reply and makes the entry. What an ioproc tells needs no reserve of its own.
 //!
 //! Each group of requests is served by a crate of its own over the parts that it touches. This crate keeps the parts
-//! together, and does what touches all of them: how a run begins, which thread runs next, and how threads end.
+//! together, and does what touches all of them: how a run begins, which thread runs next, what
+//! becomes of a note, and how threads end.
 #![tactic(auto)]
 
 mod board;
@@ -15,6 +16,7 @@ mod groups;
 mod machine;
 mod messages;
 mod next;
+mod relinquish;
 mod reserve;
 mod step;
 

@@ -1,11 +1,13 @@
-ghost use Rattle.std.specs.Prelude.{IfOk};
+ghost use Rattle.std.specs.Prelude.{◌≡◌, IfOk, length};
 ghost use Rattle.p9_manual.specs.State.{by_id};
 ghost use Rattle.p9_sched.specs.Messages.{IsOfAnswer, IsOfCall};
+ghost use Rattle.p9_sched.specs.Schedule.{IsPlace};
 ghost use Rattle.p9_sched.specs.Turns.{answer_next};
-ghost use Rattle.p9_machine.specs.Copies.{IsOfNext, IsOfPosted};
+ghost use Rattle.p9_machine.specs.Copies.{IsOfNext, IsOfPosted, IsOfTurn, oldest_note};
 
 use p9_io::IoBoard;
 use p9_manual::Ioproc;
+use p9_note::Notes;
 use p9_sched::Sched;
 use p9_word::{Answer, IoAnswer, IoCall, Msg, NoMemory};
 
@@ -42,14 +44,27 @@ fn message_of_answer(answer: &Answer) -> Result<Msg, NoMemory>
 }
 
 /// A copy of the message of the answer that the next thread of proc p goes on with.
-pub(crate) fn message_of_next(sched: &Sched, p: u32) -> Result<Msg, NoMemory>
+fn message_of_next(sched: &Sched, p: u32) -> Result<Msg, NoMemory>
+    requires { IsPlace p sched.now }
     ensures { IfOk result (λ m. IsOfNext (answer_next p sched.now) m) }
+{
+    match sched.next_answer(p) {
+        Some(answer) => message_of_answer(answer),
+        None => Ok(Msg::new()),
+    }
+}
+
+/// A copy of the message of what proc p is told next: of its oldest note, where one is pending, or else of the answer that its next
+/// thread goes on with.
+pub(crate) fn message_of_turn(sched: &Sched, notes: &Notes, p: u32) -> Result<Msg, NoMemory>
+    requires { length notes.now ≡ length sched.now.lines }
+    ensures { IfOk result (λ m. IsOfTurn (oldest_note p notes.now) (answer_next p sched.now) m) }
 {
     if p == 0 || sched.places() < p {
         return Ok(Msg::new());
     }
-    match sched.next_answer(p) {
-        Some(answer) => message_of_answer(answer),
-        None => Ok(Msg::new()),
+    match notes.oldest(p) {
+        Some(note) => note.copy(),
+        None => message_of_next(sched, p),
     }
 }

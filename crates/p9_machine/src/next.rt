@@ -4,12 +4,15 @@ ghost use Rattle.p9_manual.specs.State.{State};
 ghost use Rattle.p9_manual.specs.Places.{runs_in};
 ghost use Rattle.p9_manual.specs.Sound.{IsSound};
 ghost use Rattle.p9_manual.specs.Stuck.{is_stuck};
-ghost use Rattle.p9_manual.specs.Next.{is_place, is_over, next_of, next_event};
+ghost use Rattle.p9_manual.specs.Next.{is_place, is_over, next_of, next_event, note_first};
+ghost use Rattle.p9_manual.specs.NoteCalls.{next_note};
 ghost use Rattle.p9_sched.specs.Schedule.{IsPlace};
-ghost use Rattle.p9_machine.specs.Board.{Stands, IsBoard, GivesAll, Stays};
+ghost use Rattle.p9_machine.specs.Board.{Stands, HasPlaces, IsBoard, GivesAll, Stays};
 ghost use Rattle.p9_machine.specs.Turns.{turn_told, turn_in};
 
 use crate::board::Board;
+use crate::ends::die;
+use p9_note::Delivered;
 use p9_sched::Ready;
 use p9_word::{Reply, Setup};
 
@@ -26,7 +29,10 @@ fn is_stuck(board: &Board) -> bool
     if board.sched.has_ready() {
         return false;
     }
-    !board.io.has_call()
+    if board.io.has_call() {
+        return false;
+    }
+    !board.notes.any_pending()
 }
 
 /// Whether p is one of the proc places.
@@ -87,7 +93,22 @@ fn run_next(board: &mut Board, p: u32) -> Reply
     }
 }
 
-/// What proc p runs next.
+/// The oldest note of proc p is delivered, if one is pending; else its first ready thread runs.
+fn note_or_turn(board: &mut Board, p: u32) -> Reply
+    requires places { HasPlaces board.old }
+    requires place { IsPlace p board.old.sched }
+    requires idle { list_any (runs_in p) board.old.sched.threads ≡ false }
+    ensures gives { GivesAll (λ s. note_first p s (next_note p s)) board.old result board.new }
+    ensures stays { Stays board.old board.new }
+{
+    match board.notes.deliver(p) {
+        Delivered::Quiet => run_next(board, p),
+        Delivered::Caught(id) => Reply::Caught(id),
+        Delivered::Died(note) => die(board, p, note),
+    }
+}
+
+/// What proc p runs next, or what becomes of its oldest note.
 pub(crate) fn next_event(board: &mut Board, p: u32) -> Reply
     requires { IsBoard board.old }
     ensures gives { GivesAll (next_event board.old.setup p) board.old result board.new }
@@ -102,5 +123,5 @@ pub(crate) fn next_event(board: &mut Board, p: u32) -> Reply
     if board.sched.running(p).is_some() {
         return Reply::Stray;
     }
-    run_next(board, p)
+    note_or_turn(board, p)
 }

@@ -1,11 +1,11 @@
 ghost use Rattle.std.specs.Prelude.{◌≡◌, Some, None, OnOk, OnErr};
 ghost use Rattle.p9_word.specs.declared.trail.Seat.TheVariants.{Proc, Io as IoSeat};
-ghost use Rattle.p9_machine.specs.Board.{TakesMemory};
+ghost use Rattle.p9_machine.specs.Board.{HasPlaces, TakesMemory};
 ghost use Rattle.p9_machine.specs.Reserved.{IsKeptFor, IsStray};
 
 use crate::board::Board;
 use crate::groups::{Asked, for_request};
-use crate::messages::{message_of_next, message_posted};
+use crate::messages::{message_of_turn, message_posted};
 use p9_word::{Datum, Event, Msg, NoMemory, Seat, Tid};
 use std::alloc::Global;
 
@@ -74,11 +74,12 @@ pub(crate) fn keep(kept: &mut Option<Reserved>, reserved: Reserved)
 /// For a proc that asks which thread is to run.
 #[inline(always)]
 fn for_turn(board: &Board, p: u32, kept: &mut Option<Reserved>) -> Result<(), NoMemory>
-    requires { kept.old ≡ None }
+    requires places { HasPlaces board.now }
+    requires none { kept.old ≡ None }
     ensures memory { OnOk result (IsKeptFor board.now (Proc p) Event.Next kept.new) }
     ensures none { OnErr result (kept.new ≡ None) }
 {
-    let told = message_of_next(&board.sched, p)?;
+    let told = message_of_turn(&board.sched, &board.notes, p)?;
     let needs = Needs::Next(p);
     keep(kept, Reserved { needs, told });
     Ok(())
@@ -137,7 +138,8 @@ pub(crate) fn reserve_for(
     alloc: Global,
     kept: &mut Option<Reserved>,
 ) -> Result<(), NoMemory>
-    requires { kept.old ≡ None }
+    requires places { HasPlaces board.old }
+    requires none { kept.old ≡ None }
     ensures takes { TakesMemory board.old board.new }
     ensures memory { OnOk result (IsKeptFor board.new seat event.now kept.new) }
     ensures none { OnErr result (kept.new ≡ None) }

@@ -11,8 +11,10 @@ ghost use Rattle.p9_machine.specs.Reserved.{HasRequestMemory, IsReservedFor, IsT
 ghost use Rattle.p9_machine.specs.Shown.{is_told};
 
 use crate::board::Board;
+use crate::ends::exit_thread;
 use crate::groups::{Asked, served};
 use crate::next::next_event;
+use crate::relinquish::is_doomed;
 use crate::reserve::Needs;
 use p9_sched::{Place, Sched};
 use p9_word::{Effect, Reply, Tid};
@@ -46,7 +48,7 @@ pub(crate) fn did_call(board: &mut Board, k: u32, effect: &Effect) -> Reply
     p9_io_calls::did(&mut board.sched, &mut board.io, k, effect)
 }
 
-/// A request that is told by proc p: it is served where its thread runs there.
+/// A request that is told by proc p: it is served where its thread runs there, unless the thread ends instead.
 #[tactic(auto, unfolding(p9_manual::specs::Step::called))]
 #[inline(always)]
 fn called(board: &mut Board, p: u32, t: Tid, asked: &mut Asked) -> Reply
@@ -56,11 +58,13 @@ fn called(board: &mut Board, p: u32, t: Tid, asked: &mut Asked) -> Reply
     ensures stays { Stays board.old board.new }
     ensures told { IsOfReply result (message_for asked.old) }
 {
-    if runs_there(&board.sched, t, p) {
-        served(board, t, asked)
-    } else {
-        Reply::Stray
+    if !runs_there(&board.sched, t, p) {
+        return Reply::Stray;
     }
+    if is_doomed(&board.sched, t, asked) {
+        return exit_thread(board, t);
+    }
+    served(board, t, asked)
 }
 
 /// One event that there is memory for, but for the position of the next entry. What it hands over is taken out of what it needs.
@@ -71,7 +75,7 @@ pub(crate) fn outcome(board: &mut Board, needs: &mut Needs) -> Reply
     requires quiet { is_told (event_of needs.old) ≡ false }
     ensures gives { GivesAll (outcome board.old.setup (seat_of needs.old) (event_of needs.old)) board.old result board.new }
     ensures follows { Follows board.old (seat_of needs.old) result board.new }
-    ensures told { (m : List ℕ) → IsTold needs.old board.old.sched board.old.io.ioprocs m → IsOfReply result m }
+    ensures told { (m : List ℕ) → IsTold board.old needs.old m → IsOfReply result m }
 {
     match needs {
         Needs::Call(p, t, asked) => called(board, *p, *t, asked),

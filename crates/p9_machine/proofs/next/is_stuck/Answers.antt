@@ -1,5 +1,5 @@
 use Rattle.std.proofs.Common.{sym}
-use Rattle.p9_machine.proofs.Turning.{stuck_calls, stuck_dead, stuck_ready, stuck_running}
+use Rattle.p9_machine.proofs.Turning.{stuck_calls, stuck_dead, stuck_notes, stuck_ready, stuck_running}
 use Rattle.p9_machine.proofs.next.is_stuck.Goals as goal
 
 pub returns-then-not-has_living : goal.returns-then-not-has_living
@@ -11,6 +11,9 @@ returns-then-has_running c = λ s st sound. stuck_running c.args.board.now s st 
 pub returns-then-has_ready : goal.returns-then-has_ready
 returns-then-has_ready c = λ s st sound. stuck_ready c.args.board.now s st sound (sym c.if-has_ready.ensures)
 
+pub returns-then-has_call : goal.returns-then-has_call
+returns-then-has_call c = λ s st sound. stuck_calls c.args.board.now s st sound (sym c.if-has_call.ensures)
+
 pub returns : goal.returns
 returns c = λ s st sound.
-    stuck_calls c.args.board.now s c.has_call.result st sound (sym c.if-not-has_living.ensures) (sym c.if-has_running.ensures) (sym c.if-has_ready.ensures) c.has_call.ensures
+    stuck_notes c.args.board.now s c.any_pending.result st sound (sym c.if-not-has_living.ensures) (sym c.if-has_running.ensures) (sym c.if-has_ready.ensures) (sym c.if-has_call.ensures) (c.any_pending.ensures.stands c.args.board.now.setup.places s st.notes)

@@ -2,7 +2,7 @@ use Rattle.std.proofs.Common.{◌≡◌, refl}
 use Rattle.p9_word.specs.declared.trail.Reply.TheVariants.{Stray}
 use Rattle.p9_manual.specs.State.{by_id}
 use Rattle.p9_sched.specs.Turns.{answer_next}
-use Rattle.p9_machine.specs.Copies.{IsOfNext, IsOfPosted}
+use Rattle.p9_machine.specs.Copies.{IsOfPosted, IsOfTurn, oldest_note}
 use Rattle.p9_machine.specs.Reserved.{request_of, message_for}
 use Rattle.p9_machine.proofs.Dispatch.{unmoved, gives_by, call_is, next_is, take_is, strays}
 use Rattle.p9_machine.proofs.Told.{told_next, told_take}
@@ -34,7 +34,7 @@ returns-in-Call-clause-told c = λ m h.
 pub returns-in-Next-clause-told : goal.returns-in-Next-clause-told
 returns-in-Next-clause-told c = λ m h.
     let b = c.requires.board in
-    let is : IsOfNext (answer_next c.in-Next.p c.args.board.now.sched) m = rw c.in-Next.is at h in
+    let is : IsOfTurn (oldest_note c.in-Next.p c.args.board.now.notes) (answer_next c.in-Next.p c.args.board.now.sched) m = rw c.in-Next.is at h in
     told_next c.args.board.now b.0 c.in-Next.p c.next_event.result m b.1.0 (c.next_event.ensures.gives b.0 b.1.0 b.1.1).reply_is is
 
 pub returns-in-Take-clause-told : goal.returns-in-Take-clause-told
