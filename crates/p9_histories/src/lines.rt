@@ -2,6 +2,7 @@ use crate::chan_requests::chan_request;
 use crate::fault::Fault;
 use crate::io_requests::{effect, io_request};
 use crate::lock_requests::lock_request;
+use crate::signal_requests::signal_request;
 use crate::thread_requests::thread_request;
 use crate::words::Words;
 use p9_word::{Event, Request, Seat};
@@ -65,6 +66,9 @@ fn request(alloc: Global, words: &mut Words) -> Result<Request, Fault> {
     let name = words.word()?;
     if let Some(request) = thread_request(alloc, name, words)? {
         return Ok(Request::Thread(request));
+    }
+    if let Some(request) = signal_request(alloc, name, words)? {
+        return Ok(Request::Signal(request));
     }
     if let Some(request) = chan_request(alloc, name, words)? {
         return Ok(Request::Chan(request));

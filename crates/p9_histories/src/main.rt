@@ -17,7 +17,7 @@
 //! ```
 //!
 //! An event without a seat is one of proc 1. Requests are named as in the manual, and what follows a name is what
-//! the request's fields are, in order: numbers, texts between single quotes, and `null` and `keep`. Of an event
+//! the request's fields are, in order: numbers, texts between single quotes, and `null`, `keep`, `on` and `off`. Of an event
 //! that happens several times the first and the last reply are printed. Blank lines and lines that begin with `#`
 //! count for nothing. A history that no run can start is its first line alone, which is printed with that. A line that
 //! isn't understood ends the program with its number and status 1.
@@ -34,6 +34,7 @@ mod play;
 mod replies;
 mod script;
 mod setup;
+mod signal_requests;
 mod thread_requests;
 mod words;
 

@@ -14,6 +14,8 @@ pub(crate) fn reply_text(alloc: Global, reply: &Reply) -> Result<String, AllocEr
             let answer = answer_text(alloc, answer)?;
             format!(in alloc; "turn {t} {answer}")
         }
+        Reply::Caught(id) => format!(in alloc; "caught {id}"),
+        Reply::Died(note) => after(alloc, "died", quoted(alloc, note)?),
         Reply::Idle => String::from_str(alloc, "idle"),
         Reply::Over => String::from_str(alloc, "over"),
         Reply::Stuck => String::from_str(alloc, "stuck"),
@@ -38,6 +40,7 @@ fn answer_text(alloc: Global, answer: &Answer) -> Result<String, AllocError> {
         Answer::Index { err, i, from, msg } => index_text(alloc, *err, *i, *from, msg),
         Answer::NoBlock => String::from_str(alloc, "noblock"),
         Answer::Closed => String::from_str(alloc, "closed"),
+        Answer::Interrupted => String::from_str(alloc, "interrupted"),
         Answer::Number(n) => format!(in alloc; "number {n}"),
         Answer::Minus => String::from_str(alloc, "minus"),
         Answer::Text(text) => after(alloc, "text", quoted(alloc, text)?),
