@@ -6,12 +6,16 @@ use std::alloc::Global;
 pub enum IoCall {
     /// Opens the file.
     IoOpen,
+    /// Reads at most this many bytes, 1 to 65,536, by one read. None come at the end.
+    IoRead(u32),
     /// Reads this many bytes, or all that are left: 1 to 65,536.
     IoReadN(u32),
     /// Writes all of these bytes.
     IoWrite(Msg),
     /// Closes the file.
     IoClose,
+    /// What a device does besides: the thing with this number, asked with these bytes. A file refuses it.
+    IoOwn(u32, Msg),
 }
 
 /// What a call through an ioproc came to, told by the device that served it.
@@ -33,18 +37,24 @@ impl Datum for IoCall {
     fn copied(&self, alloc: Global) -> Result<IoCall, NoMemory> {
         match self {
             IoCall::IoOpen => Ok(IoCall::IoOpen),
+            IoCall::IoRead(n) => Ok(IoCall::IoRead(*n)),
             IoCall::IoReadN(n) => Ok(IoCall::IoReadN(*n)),
             IoCall::IoWrite(bytes) => Ok(IoCall::IoWrite(bytes.copied(alloc)?)),
             IoCall::IoClose => Ok(IoCall::IoClose),
+            IoCall::IoOwn(code, bytes) => Ok(IoCall::IoOwn(*code, bytes.copied(alloc)?)),
         }
     }
 
     fn is_same(&self, other: &IoCall) -> bool {
         match (self, other) {
             (IoCall::IoOpen, IoCall::IoOpen) => true,
+            (IoCall::IoRead(a), IoCall::IoRead(b)) => a == b,
             (IoCall::IoReadN(a), IoCall::IoReadN(b)) => a == b,
             (IoCall::IoWrite(a), IoCall::IoWrite(b)) => a.is_same(b),
             (IoCall::IoClose, IoCall::IoClose) => true,
+            (IoCall::IoOwn(code, bytes), IoCall::IoOwn(other_code, other_bytes)) => {
+                code == other_code && bytes.is_same(other_bytes)
+            }
             _ => false,
         }
     }

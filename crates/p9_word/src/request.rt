@@ -200,6 +200,9 @@ pub enum IoReq {
     IoProc { k: u32 },
     /// Makes a call through an ioproc and waits for its answer, an `Io`.
     IoRun { k: u32, call: IoCall },
+    /// Ends the wait for an ioproc's call: `Number(1)` where a thread waited for it, else `Number(0)`. A call that has begun
+    /// goes on.
+    IoInterrupt { k: u32 },
     /// Ends an ioproc that has no call: `Done`.
     CloseIoProc { k: u32 },
 }
@@ -475,6 +478,7 @@ impl Datum for IoReq {
                 k: *k,
                 call: call.copied(alloc)?,
             }),
+            IoReq::IoInterrupt { k } => Ok(IoReq::IoInterrupt { k: *k }),
             IoReq::CloseIoProc { k } => Ok(IoReq::CloseIoProc { k: *k }),
         }
     }
@@ -489,6 +493,7 @@ impl Datum for IoReq {
                     call: other_call,
                 },
             ) => k == other_k && call.is_same(other_call),
+            (IoReq::IoInterrupt { k: a }, IoReq::IoInterrupt { k: b }) => a == b,
             (IoReq::CloseIoProc { k: a }, IoReq::CloseIoProc { k: b }) => a == b,
             _ => false,
         }

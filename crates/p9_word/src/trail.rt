@@ -23,8 +23,8 @@ pub enum Event {
     IoDid(Effect),
 }
 
-/// What the machine replies to an event. `Idle`, `Over` and `Stray` make no entry in the trail and
-/// change nothing.
+/// What the machine replies to an event. `Idle`, `Over`, `Halted` and `Stray` make no entry in the trail
+/// and change nothing.
 #[derive(Drop)]
 pub enum Reply {
     /// The answer of the request; the thread runs on.
@@ -47,6 +47,8 @@ pub enum Reply {
     Over,
     /// Threads live, and none of them can ever run again.
     Stuck,
+    /// The machine was halted, since memory was wanted.
+    Halted,
     /// The event doesn't come from where it could.
     Stray,
     /// The ioproc's call has begun.
@@ -113,6 +115,7 @@ impl Datum for Reply {
             Reply::Idle => Ok(Reply::Idle),
             Reply::Over => Ok(Reply::Over),
             Reply::Stuck => Ok(Reply::Stuck),
+            Reply::Halted => Ok(Reply::Halted),
             Reply::Stray => Ok(Reply::Stray),
             Reply::Took(call) => Ok(Reply::Took(call.copied(alloc)?)),
             Reply::Noted => Ok(Reply::Noted),
@@ -135,6 +138,7 @@ impl Datum for Reply {
             (Reply::Idle, Reply::Idle) => true,
             (Reply::Over, Reply::Over) => true,
             (Reply::Stuck, Reply::Stuck) => true,
+            (Reply::Halted, Reply::Halted) => true,
             (Reply::Stray, Reply::Stray) => true,
             (Reply::Took(a), Reply::Took(b)) => a.is_same(b),
             (Reply::Noted, Reply::Noted) => true,
