@@ -2,7 +2,7 @@
 use Rattle.std.specs.Prelude.{ℕ, ◌≡◌, ◌≤◌, ◌==◌, ◌&&◌, ◌||◌, Bool, true, false, List, [], length, take, if◌then◌else◌, nat_lt, nat_le}
 use Rattle.p9_word.specs.declared.limits.TheConstants.{MOST_READ_BYTES}
 use Rattle.p9_word.specs.declared.io_call.IoCall.{IoCall}
-use Rattle.p9_word.specs.declared.io_call.IoCall.TheVariants.{IoOpen, IoReadN, IoWrite, IoClose}
+use Rattle.p9_word.specs.declared.io_call.IoCall.TheVariants.{IoOpen, IoRead, IoReadN, IoWrite, IoClose, IoOwn}
 use Rattle.p9_word.specs.declared.io_call.Effect.{Effect}
 use Rattle.p9_word.specs.declared.io_call.Effect.TheVariants.{Opened, Shut, Got, Wrote, Refused}
 
@@ -26,6 +26,11 @@ fitting IoClose Refused = Always
 fitting IoClose Opened = Never
 fitting IoClose (Got failed bytes) = Never
 fitting IoClose (Wrote count failed) = Never
+fitting (IoRead n) (Got failed bytes) = Reads (length bytes) n
+fitting (IoRead n) Refused = Always
+fitting (IoRead n) Opened = Never
+fitting (IoRead n) Shut = Never
+fitting (IoRead n) (Wrote count failed) = Never
 fitting (IoReadN n) (Got failed bytes) = Reads (length bytes) n
 fitting (IoReadN n) Refused = Always
 fitting (IoReadN n) Opened = Never
@@ -36,6 +41,11 @@ fitting (IoWrite m) Refused = Always
 fitting (IoWrite m) Opened = Never
 fitting (IoWrite m) Shut = Never
 fitting (IoWrite m) (Got failed bytes) = Never
+fitting (IoOwn code m) (Got failed bytes) = Reads (length bytes) MOST_READ_BYTES
+fitting (IoOwn code m) Refused = Always
+fitting (IoOwn code m) Opened = Never
+fitting (IoOwn code m) Shut = Never
+fitting (IoOwn code m) (Wrote count failed) = Never
 
 -- what that means: a read gives at most as many bytes as were asked for, and a write that did not fail takes all
 abbrev pub IsFitting : Fitting → Type 0
@@ -83,12 +93,20 @@ put (IoWrite m) Shut = []
 put (IoWrite m) (Got failed bytes) = []
 put (IoWrite m) Refused = []
 put IoOpen effect = []
+put (IoRead n) effect = []
 put (IoReadN n) effect = []
 put IoClose effect = []
+put (IoOwn code m) effect = []
+
+-- the lesser of the two
+abbrev pub at_most : ℕ → ℕ → ℕ
+at_most most n = if nat_lt most n then most else n
 
 -- the room that the bytes of a call may need
 abbrev pub room_for : IoCall → ℕ
-room_for (IoReadN n) = if nat_lt MOST_READ_BYTES n then MOST_READ_BYTES else n
+room_for (IoRead n) = at_most MOST_READ_BYTES n
+room_for (IoReadN n) = at_most MOST_READ_BYTES n
+room_for (IoOwn code m) = MOST_READ_BYTES
 room_for IoOpen = 0
 room_for (IoWrite m) = 0
 room_for IoClose = 0
@@ -96,6 +114,8 @@ room_for IoClose = 0
 -- the length of the message in a call
 abbrev pub message_length : IoCall → ℕ
 message_length (IoWrite m) = length m
+message_length (IoOwn code m) = length m
 message_length IoOpen = 0
+message_length (IoRead n) = 0
 message_length (IoReadN n) = 0
 message_length IoClose = 0

@@ -3,7 +3,7 @@
 use Rattle.std.specs.Prelude.{ℕ, ◌≡◌, ◌==◌, ◌||◌, Bool, true, false, not, List, [], ◌∷◌, ◌++◌, nat_lt}
 use Rattle.p9_word.specs.declared.limits.TheConstants.{MOST_READ_BYTES}
 use Rattle.p9_word.specs.declared.io_call.IoCall.{IoCall}
-use Rattle.p9_word.specs.declared.io_call.IoCall.TheVariants.{IoOpen, IoReadN, IoWrite, IoClose}
+use Rattle.p9_word.specs.declared.io_call.IoCall.TheVariants.{IoOpen, IoRead, IoReadN, IoWrite, IoClose, IoOwn}
 use Rattle.p9_word.specs.declared.io_call.Effect.{Effect}
 use Rattle.p9_word.specs.declared.io_call.Effect.TheVariants.{Opened, Shut, Got, Wrote, Refused}
 use Rattle.p9_manual.specs.Effects.{Fits, got, put}
@@ -25,13 +25,19 @@ after at (Got failed bytes) = record at { failed = at.failed || failed }
 after at (Wrote count failed) = at
 after at Refused = at
 
--- whether a file of this direction refuses a call: a call of the other direction, a read or a write while it is
--- shut, and a read of no bytes or of more than a call reads
+-- whether a file of this direction refuses a read of so many bytes: it is written, or shut, or the read is of no bytes or
+-- of more than a call reads
+abbrev pub refuses_read : Bool → Bool → ℕ → Bool
+refuses_read out is_open n = out || not is_open || n == 0 || nat_lt MOST_READ_BYTES n
+
+-- whether a file of this direction refuses a call: a read so, a write where it is read or shut, and what it can't do at all
 abbrev pub refuses : Bool → Bool → IoCall → Bool
 refuses out is_open IoOpen = false
 refuses out is_open IoClose = false
-refuses out is_open (IoReadN n) = out || not is_open || n == 0 || nat_lt MOST_READ_BYTES n
+refuses out is_open (IoRead n) = refuses_read out is_open n
+refuses out is_open (IoReadN n) = refuses_read out is_open n
 refuses out is_open (IoWrite m) = not out || not is_open
+refuses out is_open (IoOwn code m) = true
 
 -- the effect is Refused
 abbrev pub is_refused : Effect → Bool

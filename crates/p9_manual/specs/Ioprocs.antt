@@ -1,13 +1,13 @@
 -- The requests on ioprocs, and what an ioproc does. ioproc(2).
 use Rattle.std.specs.Prelude.{ℕ, ◌-◌, ◌||◌, Bool, true, false, not, List, [], ◌∷◌, Option, Some, None, if◌then◌else◌, nat_lt}
 use Rattle.std.specs.List.{list_any}
-use Rattle.p9_word.specs.declared.answer.Answer.TheVariants.{Done, Number, Io as IoAnswered}
+use Rattle.p9_word.specs.declared.answer.Answer.TheVariants.{Done, Number, Interrupted, Io as IoAnswered}
 use Rattle.p9_word.specs.declared.answer.IoAnswer.{IoAnswer}
 use Rattle.p9_word.specs.declared.answer.IoAnswer.TheVariants as answer
 use Rattle.p9_word.specs.declared.trail.Reply.TheVariants.{Took, Noted, Over, Stray, Idle as IdleReply}
 use Rattle.p9_word.specs.declared.request.Request.TheVariants.{Io as IoRequest}
 use Rattle.p9_word.specs.declared.request.IoReq.{IoReq}
-use Rattle.p9_word.specs.declared.request.IoReq.TheVariants.{IoProc, IoRun, CloseIoProc}
+use Rattle.p9_word.specs.declared.request.IoReq.TheVariants.{IoProc, IoRun, IoInterrupt, CloseIoProc}
 use Rattle.p9_word.specs.declared.io_call.IoCall.{IoCall}
 use Rattle.p9_word.specs.declared.io_call.Effect.{Effect}
 use Rattle.p9_word.specs.declared.io_call.Effect.TheVariants.{Opened, Shut, Got, Wrote, Refused}
@@ -42,6 +42,20 @@ post_call t k call s (Some (Begun u other)) = bad s
 post_call t k call s (Some Closed) = bad s
 post_call t k call s None = bad s
 
+-- the thread that waits for the call of a begun ioproc, if one does, is interrupted; the call goes on for nobody
+abbrev pub interrupt_begun : ℕ → IoCall → State → Option ℕ → Outcome
+interrupt_begun k call s None = now (Number 0) s
+interrupt_begun k call s (Some t) = now (Number 1) (wake t Interrupted (with_ioproc k (Begun None call) s))
+
+-- a call that isn't begun yet is taken back, and its thread is interrupted
+abbrev pub interrupt_call : ℕ → State → Option Ioproc → Outcome
+interrupt_call k s (Some (Posted t call)) = now (Number 1) (wake t Interrupted (with_ioproc k Idle s))
+interrupt_call k s (Some (Begun caller call)) = interrupt_begun k call s caller
+interrupt_call k s (Some Idle) = now (Number 0) s
+interrupt_call k s (Some Unmade) = bad s
+interrupt_call k s (Some Closed) = bad s
+interrupt_call k s None = bad s
+
 -- an idle ioproc is closed
 abbrev pub close_ioproc : ℕ → State → Option Ioproc → Outcome
 close_ioproc k s (Some Idle) = now Done (with_ioproc k Closed s)
@@ -55,6 +69,7 @@ close_ioproc k s None = bad s
 unfoldable pub io_call : Setup → ℕ → IoReq → State → Outcome
 io_call setup t (IoProc k) s = make k s (by_id s.ioprocs k)
 io_call setup t (IoRun k call) s = post_call t k call s (by_id s.ioprocs k)
+io_call setup t (IoInterrupt k) s = interrupt_call k s (by_id s.ioprocs k)
 io_call setup t (CloseIoProc k) s = close_ioproc k s (by_id s.ioprocs k)
 
 -- an ioproc takes the call that is posted at it, unless the run is at its end or no thread lives

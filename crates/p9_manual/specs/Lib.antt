@@ -10,6 +10,7 @@ pub mod Effects
 pub mod Ends
 pub mod Files
 pub mod FilesInHistory
+pub mod Halt
 pub mod Held
 pub mod History
 pub mod Holds
