@@ -5,9 +5,9 @@ use Rattle.p9_word.specs.declared.answer.Answer.TheVariants.{Done, Sent, Got, In
 use Rattle.p9_word.specs.declared.answer.IoAnswer.{IoAnswer}
 use Rattle.p9_word.specs.declared.answer.IoAnswer.TheVariants as answer
 use Rattle.p9_word.specs.declared.io_call.IoCall.{IoCall}
-use Rattle.p9_word.specs.declared.io_call.IoCall.TheVariants.{IoOpen, IoReadN, IoWrite, IoClose}
+use Rattle.p9_word.specs.declared.io_call.IoCall.TheVariants.{IoOpen, IoRead, IoReadN, IoWrite, IoClose, IoOwn}
 use Rattle.p9_word.specs.declared.trail.Reply.{Reply}
-use Rattle.p9_word.specs.declared.trail.Reply.TheVariants.{Now, Waits, Ended, Begin, Turn, Caught, Died, Idle, Over, Stuck, Stray, Took, Noted}
+use Rattle.p9_word.specs.declared.trail.Reply.TheVariants.{Now, Waits, Ended, Begin, Turn, Caught, Died, Idle, Over, Stuck, Halted, Stray, Took, Noted}
 
 -- m is the message of the answer of an ioproc, if it has one
 abbrev pub IsOfIoAnswer : IoAnswer → List ℕ → Type 0
@@ -37,7 +37,9 @@ IsOfAnswer Bad m = Unit {0}
 -- m is the message of the call, if it has one
 abbrev pub IsOfCall : IoCall → List ℕ → Type 0
 IsOfCall (IoWrite bytes) m = m ≡ bytes
+IsOfCall (IoOwn code bytes) m = m ≡ bytes
 IsOfCall IoOpen m = Unit {0}
+IsOfCall (IoRead n) m = Unit {0}
 IsOfCall (IoReadN n) m = Unit {0}
 IsOfCall IoClose m = Unit {0}
 
@@ -54,6 +56,7 @@ IsOfReply (Died note) m = m ≡ note
 IsOfReply Idle m = Unit {0}
 IsOfReply Over m = Unit {0}
 IsOfReply Stuck m = Unit {0}
+IsOfReply Halted m = Unit {0}
 IsOfReply Stray m = Unit {0}
 IsOfReply Noted m = Unit {0}
 
