@@ -6,6 +6,7 @@ pub mod Signals
 pub mod Deals
 pub mod Locks
 pub mod Requests
+pub mod Ioprocs
 pub mod Steps
 pub mod Entries
 pub mod Histories

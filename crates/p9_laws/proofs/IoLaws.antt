@@ -1,12 +1,10 @@
 -- The laws that a server of ioprocs rests on.
-use Rattle.std.proofs.Common.{◌≡◌, ℕ, ◌-◌, ◌≤◌, Bool, true, false, not, cond, ◌&&◌, ◌||◌, eqb, ltb, List, length, Option, Some, None, refl, ap, subst, ◌∙◌, arith, rules, tests}
+use Rattle.std.proofs.Common.{◌≡◌, ℕ, ◌-◌, ◌≤◌, Bool, true, false, not, cond, ◌&&◌, ◌||◌, eqb, ltb, List, Option, Some, None, refl, ap, subst, ◌∙◌, arith, rules, tests}
 use Rattle.std.specs.List.{list_any}
 use Rattle.std.proofs.lemmas.Bool.{ltb-false, eqb-false, le-leb}
 use Rattle.p9_word.specs.declared.limits.TheConstants.{MOST_READ_BYTES}
 use Rattle.p9_word.specs.declared.io_call.IoCall.{IoCall}
-use Rattle.p9_word.specs.declared.io_call.IoCall.TheVariants.{IoOpen, IoReadN, IoWrite, IoClose}
 use Rattle.p9_word.specs.declared.io_call.Effect.{Effect}
-use Rattle.p9_word.specs.declared.io_call.Effect.TheVariants.{Opened, Shut, Got, Wrote, Refused}
 use Rattle.p9_word.specs.declared.request.Request.{Request}
 use Rattle.p9_word.specs.declared.setup.Setup.{Setup}
 use Rattle.p9_word.specs.declared.trail.Entry.{Entry}
@@ -18,7 +16,7 @@ use Rattle.p9_word.specs.declared.trail.Seat.{Seat}
 use Rattle.p9_word.specs.declared.trail.Seat.TheVariants.{Proc, Io}
 use Rattle.p9_manual.specs.declared.state.Ioproc.{Ioproc}
 use Rattle.p9_manual.specs.declared.state.Ioproc.TheVariants.{Unmade, Idle, Posted, Begun, Closed}
-use Rattle.p9_manual.specs.Effects.{fits, Fits, message_length}
+use Rattle.p9_manual.specs.Effects.{Fitting, Never, Always, Reads, Writes, IsFitting, fits, fitting, Fits, is_fitting, message_length}
 use Rattle.p9_manual.specs.State.{State, Outcome, by_id, same}
 use Rattle.p9_manual.specs.Places.{lives, runs_there}
 use Rattle.p9_manual.specs.Ioprocs.{take_call, did_call, io_event}
@@ -107,16 +105,14 @@ fits_whole : (failed : Bool) (a b : ℕ) → (failed ≡ false → a ≡ b) → 
 fits_whole true a b h = refl
 fits_whole false a b h = let e = h refl in search (rules, tests)
 
+fitting_true : (x : Fitting) → IsFitting x → is_fitting x ≡ true
+fitting_true Never h = absurd h
+fitting_true Always h = refl
+fitting_true (Reads count most) h = both_true _ _ (le-leb count most h.0) (le-leb count MOST_READ_BYTES h.1)
+fitting_true (Writes count whole failed) h = both_true _ _ (le-leb count whole h.0) (fits_whole failed count whole h.1)
+
 fits_true : (call : IoCall) (effect : Effect) → Fits call effect → fits call effect ≡ true
-fits_true IoOpen Opened h = refl
-fits_true IoOpen Refused h = refl
-fits_true IoClose Shut h = refl
-fits_true IoClose Refused h = refl
-fits_true (IoReadN n) (Got failed bytes) h = both_true _ _ (le-leb (length bytes) n h.0) (le-leb (length bytes) MOST_READ_BYTES h.1)
-fits_true (IoReadN n) Refused h = refl
-fits_true (IoWrite m) (Wrote count failed) h = both_true _ _ (le-leb count (length m) h.0) (fits_whole failed count (length m) h.1)
-fits_true (IoWrite m) Refused h = refl
-fits_true call effect h = absurd h
+fits_true call effect h = fitting_true (fitting call effect) h
 
 fitting_noted_at : (k : ℕ) (effect : Effect) (s : State) (t : Option ℕ) (call : IoCall) → fits call effect ≡ true → (did_call k effect s (Some (Begun t call))).reply ≡ Noted
 fitting_noted_at k effect s t call e = rw e refl

@@ -11,6 +11,7 @@ pub mod Groups
 pub mod RunMoves
 pub mod FirstReady
 pub mod RunWoken
+pub mod RunFreed
 pub mod RunCalls
 pub mod RunChans
 pub mod RunLocks

@@ -4,7 +4,7 @@ use Rattle.std.specs.Prelude.{is_some, option_map}
 use Rattle.std.specs.List.{list_any}
 use Rattle.std.proofs.lemmas.Bool.{and_parts, le-leb, eqb-true}
 use Rattle.p9_word.specs.declared.io_call.IoCall.{IoCall}
-use Rattle.p9_word.specs.declared.io_call.IoCall.TheVariants.{IoOpen, IoReadN, IoWrite, IoClose}
+use Rattle.p9_word.specs.declared.io_call.IoCall.TheVariants.{IoOpen, IoRead, IoReadN, IoWrite, IoClose, IoOwn}
 use Rattle.p9_word.specs.declared.io_call.Effect.TheVariants.{Refused}
 use Rattle.p9_word.specs.declared.request.Request.TheVariants.{Thread as ThreadRequest}
 use Rattle.p9_word.specs.declared.request.ThreadReq.TheVariants.{ThreadExits}
@@ -157,9 +157,11 @@ one_has_note setup s lined over none some =
 
 always_refused : (call : IoCall) → fits call Refused ≡ true
 always_refused IoOpen = refl
+always_refused (IoRead n) = refl
 always_refused (IoReadN n) = refl
 always_refused (IoWrite m) = refl
 always_refused IoClose = refl
+always_refused (IoOwn code m) = refl
 
 take_reply : (setup : Setup) (k t : ℕ) (call : IoCall) (s : State) → by_id s.ioprocs k ≡ Some (Posted t call) → s.over ≡ false → list_any lives s.threads ≡ true → (step setup (Io k) IoTake s).reply ≡ Took call
 unfolding step outcome io_event

@@ -12,7 +12,7 @@ use Rattle.p9_word.specs.declared.request.Request.{Request}
 use Rattle.p9_word.specs.declared.request.Request.TheVariants.{Chan as ChanRequest}
 use Rattle.p9_word.specs.declared.request.ChanReq.{ChanReq}
 use Rattle.p9_word.specs.declared.request.IoReq.{IoReq}
-use Rattle.p9_word.specs.declared.request.IoReq.TheVariants.{IoProc, IoRun, CloseIoProc}
+use Rattle.p9_word.specs.declared.request.IoReq.TheVariants.{IoProc, IoRun, IoInterrupt, CloseIoProc}
 use Rattle.p9_word.specs.declared.request.LockReq.{LockReq}
 use Rattle.p9_word.specs.declared.io_call.IoCall.{IoCall}
 use Rattle.p9_word.specs.declared.io_call.Effect.{Effect}
@@ -31,7 +31,7 @@ use Rattle.p9_manual.specs.Offers.{Alternation, alternation}
 use Rattle.p9_manual.specs.ReadyEntries.{fits as fits_chans}
 use Rattle.p9_manual.specs.Alt.{Verdict, AllClosed, Commits, NoneReady, MustWait, decided}
 use Rattle.p9_manual.specs.Chans.{chan_call, by_alternation}
-use Rattle.p9_manual.specs.Ioprocs.{io_call, make, post_call, close_ioproc, take_call, did_call, io_event}
+use Rattle.p9_manual.specs.Ioprocs.{io_call, make, post_call, interrupt_begun, interrupt_call, close_ioproc, take_call, did_call, io_event}
 use Rattle.p9_manual.specs.Effects.{fits, message_length}
 use Rattle.p9_manual.specs.Stuck.{is_stuck}
 use Rattle.p9_manual.specs.Next.{next_event, next_of, note_first, first_ready, turn, turn_reply, started, is_place, is_over}
@@ -120,6 +120,18 @@ post_leaves t k call s (Some (stand.Posted u other)) = λ e. refl
 post_leaves t k call s (Some (stand.Begun u other)) = λ e. refl
 post_leaves t k call s (Some stand.Closed) = λ e. refl
 
+interrupt_begun_leaves : (k : ℕ) (call : IoCall) (s : State) (o : Option ℕ) → Leaves s (interrupt_begun k call s o)
+interrupt_begun_leaves k call s None = λ e. refl
+interrupt_begun_leaves k call s (Some t) = λ e. cc
+
+interrupt_leaves : (k : ℕ) (s : State) (o : Option Ioproc) → Leaves s (interrupt_call k s o)
+interrupt_leaves k s None = λ e. refl
+interrupt_leaves k s (Some stand.Unmade) = λ e. refl
+interrupt_leaves k s (Some stand.Idle) = λ e. refl
+interrupt_leaves k s (Some (stand.Posted t call)) = λ e. cc
+interrupt_leaves k s (Some (stand.Begun t call)) = interrupt_begun_leaves k call s t
+interrupt_leaves k s (Some stand.Closed) = λ e. refl
+
 close_ioproc_leaves : (k : ℕ) (s : State) (o : Option Ioproc) → Leaves s (close_ioproc k s o)
 close_ioproc_leaves k s None = λ e. refl
 close_ioproc_leaves k s (Some stand.Unmade) = λ e. refl
@@ -132,6 +144,7 @@ io_leaves : (S : Setup) (t : ℕ) (r : IoReq) (s : State) → Leaves s (io_call 
 unfolding io_call
 io_leaves S t (IoProc k) s = make_leaves k s _
 io_leaves S t (IoRun k call) s = post_leaves t k call s _
+io_leaves S t (IoInterrupt k) s = interrupt_leaves k s _
 io_leaves S t (CloseIoProc k) s = close_ioproc_leaves k s _
 
 kind_leaves : (S : Setup) (t : ℕ) (s : State) (r : Request) (o : Outcome) → Kind S t s r o → Leaves s o
@@ -216,6 +229,7 @@ refusals_make (reply.Died note) e = cc
 refusals_make reply.Idle e = cc
 refusals_make reply.Over e = cc
 refusals_make reply.Stuck e = cc
+refusals_make reply.Halted e = cc
 refusals_make reply.Stray e = cc
 refusals_make (reply.Took call) e = cc
 refusals_make reply.Noted e = cc

@@ -1,25 +1,28 @@
 -- What each request on ioprocs of a thread that runs does, and what the requests that make no thread share.
-use Rattle.std.proofs.Common.{◌≡◌, ℕ, ◌+◌, ◌-◌, Bool, true, false, cond, ◌&&◌, eqb, ltb, List, [], ◌∷◌, ◌++◌, Option, Some, None, refl, subst, inl, inr, arith}
+use Rattle.std.proofs.Common.{◌≡◌, ◌≢◌, ℕ, ◌+◌, ◌-◌, Bool, true, false, cond, ◌&&◌, eqb, ltb, List, [], ◌∷◌, ◌++◌, Option, Some, None, refl, subst, inl, inr, arith}
 use Rattle.std.proofs.lemmas.Bool.{cases_eq}
 use Rattle.p9_word.specs.declared.answer.Answer.{Answer}
+use Rattle.p9_word.specs.declared.answer.Answer.TheVariants.{Interrupted, Number}
 use Rattle.p9_word.specs.declared.request.Request.{Request}
 use Rattle.p9_word.specs.declared.request.Request.TheVariants.{Io as IoRequest}
 use Rattle.p9_word.specs.declared.request.IoReq.{IoReq}
-use Rattle.p9_word.specs.declared.request.IoReq.TheVariants.{IoProc, IoRun, CloseIoProc}
+use Rattle.p9_word.specs.declared.request.IoReq.TheVariants.{IoProc, IoRun, IoInterrupt, CloseIoProc}
 use Rattle.p9_word.specs.declared.io_call.IoCall.{IoCall}
 use Rattle.p9_word.specs.declared.setup.Setup.{Setup}
 use Rattle.p9_word.specs.declared.trail.Reply.TheVariants.{Now, Ended as EndedReply}
-use Rattle.p9_manual.specs.declared.state.Place.TheVariants.{Ready, Waiting, Ended}
+use Rattle.p9_manual.specs.declared.state.Place.TheVariants.{Ready, Running, Waiting, Ended}
+use Rattle.p9_manual.specs.declared.state.Thread.{Thread}
 use Rattle.p9_manual.specs.declared.state.Ioproc.{Ioproc}
 use Rattle.p9_manual.specs.declared.state.Ioproc.TheVariants.{Unmade, Idle, Posted, Begun, Closed as ClosedIoproc}
 use Rattle.p9_manual.specs.Effects.{message_length}
-use Rattle.p9_manual.specs.State.{State, Outcome, by_id, changed, waiting, now, bad, done}
-use Rattle.p9_manual.specs.Ioprocs.{io_call, make, post_call, close_ioproc}
+use Rattle.p9_manual.specs.State.{State, Outcome, at_place, by_id, changed, waiting, now, bad, done, wake}
+use Rattle.p9_manual.specs.Ioprocs.{io_call, make, post_call, interrupt_begun, interrupt_call, close_ioproc, with_ioproc}
 use Rattle.p9_laws.specs.RunReplies.{IsCallReply}
 use Rattle.p9_laws.specs.IoReplies.{IsBegun}
 use Rattle.p9_laws.proofs.Tallies.{tally, tally-put, tally-put_exact, tally-push}
-use Rattle.p9_laws.proofs.Standing.{place_of, by_id-changed_other, get_by_id}
+use Rattle.p9_laws.proofs.Standing.{place_of, by_id-changed_same, by_id-changed_other, get_by_id, made_up}
 use Rattle.p9_laws.proofs.RunMoves.{AreUpright, IsUpright, IsMoved, is_call_of, is_long, unmoved, placed_moved, RunsIn, runs_up, readied_upright, waiting_upright, asks_io, is_io_wait_of, wait_of, no_io_wait}
+use Rattle.p9_laws.proofs.RunFreed.{IsFreed, caller_waits, disowned, freed_moved, freed_up, freed_upright, taken_back}
 
 -- what a request of a thread t that runs is to keep, where it makes no thread
 pub record IsServed (t : ℕ) (s : State) (o : Outcome) : Type 0 where
@@ -134,6 +137,46 @@ post_call_served t k call s (Some (Begun u other)) at upright runs = bad_served 
 post_call_served t k call s (Some ClosedIoproc) at upright runs = bad_served s t upright
 post_call_served t k call s None at upright runs = bad_served s t upright
 
+-- what is begun at an ioproc stays so where a begun call goes on for nobody
+begun_disowned : (ios : List Ioproc) (k : ℕ) (t : Option ℕ) (call : IoCall) → by_id ios k ≡ Some (Begun t call) → (j : ℕ) (other : IoCall) → IsBegun other (by_id ios j) → IsBegun other (by_id (changed (λ _. Begun None call) ios (k - 1)) j)
+begun_disowned ios k t call at j other h = elim (cases_eq j k) [
+  | inl e ↦
+      let there = subst (λ (x : ℕ). by_id ios x ≡ Some (Begun h.0 other)) e (h.1) in
+      let same : other ≡ call = cc (there, at) in
+      rw (e, same) (None, by_id-changed_same (λ _. Begun None call) ios k (Begun t call) at)
+  | inr ne ↦ rw (by_id-changed_other (λ _. Begun None call) ios k j (Begun t call) at ne) h
+]
+
+-- the thread u that waited for the call of an ioproc is interrupted, and t runs on
+freed_served : (t u k : ℕ) (old io : Ioproc) (s : State) → IsFreed u k old io s → ((j : ℕ) (call : IoCall) → IsBegun call (by_id s.ioprocs j) → IsBegun call (by_id (changed (λ _. io) s.ioprocs (k - 1)) j)) → IsUpright s → RunsIn s t → IsServed t s (now (Number 1) (wake u Interrupted (with_ioproc k io s)))
+freed_served t u k old io s freed begun upright runs =
+    let made = made_up s.threads u (freed_up u k old io s freed upright) in
+    record {
+      moved = freed_moved u k old io Interrupted s freed upright;
+      upright = freed_upright u k old io Interrupted s freed upright;
+      reply = tt;
+      ends = λ e. cc;
+      stays = λ a e. by_id-changed_other (at_place (Ready Interrupted)) s.threads u t made.0 made.1 (others s.threads (caller_waits u k old io s freed upright).0 runs);
+      begun = begun;
+      over = refl;
+      opened = refl;
+    }
+  where
+    others : (threads : List Thread) → place_of threads u ≡ Waiting → place_of threads t ≡ Running → t ≢ u
+    others threads waits runs same = let r = subst (λ (x : ℕ). place_of threads x ≡ Running) same runs in cc (r, waits)
+
+interrupt_begun_served : (t k : ℕ) (call : IoCall) (s : State) (o : Option ℕ) → by_id s.ioprocs k ≡ Some (Begun o call) → IsUpright s → RunsIn s t → IsServed t s (interrupt_begun k call s o)
+interrupt_begun_served t k call s None at upright runs = now_served s t (Number 0) s.ioprocs upright (λ k call h. h)
+interrupt_begun_served t k call s (Some u) at upright runs = freed_served t u k _ (Begun None call) s (disowned u k call s at) (begun_disowned s.ioprocs k (Some u) call at) upright runs
+
+interrupt_call_served : (t k : ℕ) (s : State) (o : Option Ioproc) → by_id s.ioprocs k ≡ o → IsUpright s → RunsIn s t → IsServed t s (interrupt_call k s o)
+interrupt_call_served t k s (Some (Posted u call)) at upright runs = freed_served t u k _ Idle s (taken_back u k call s at) (begun_elsewhere s.ioprocs k (Posted u call) Idle at (λ x call e. cc)) upright runs
+interrupt_call_served t k s (Some (Begun o call)) at upright runs = interrupt_begun_served t k call s o at upright runs
+interrupt_call_served t k s (Some Idle) at upright runs = now_served s t (Number 0) s.ioprocs upright (λ k call h. h)
+interrupt_call_served t k s (Some Unmade) at upright runs = bad_served s t upright
+interrupt_call_served t k s (Some ClosedIoproc) at upright runs = bad_served s t upright
+interrupt_call_served t k s None at upright runs = bad_served s t upright
+
 close_ioproc_served : (t k : ℕ) (s : State) (o : Option Ioproc) → by_id s.ioprocs k ≡ o → IsUpright s → IsServed t s (close_ioproc k s o)
 close_ioproc_served t k s (Some Idle) at upright = now_served s t _ _ (put_upright s k Idle ClosedIoproc at upright (λ u. refl) (λ u. refl) refl) (begun_elsewhere s.ioprocs k Idle ClosedIoproc at (λ x call e. cc))
 close_ioproc_served t k s (Some Unmade) at upright = bad_served s t upright
@@ -146,4 +189,5 @@ pub io_call_served : (setup : Setup) (t : ℕ) (r : IoReq) (s : State) → IsUpr
 unfolding io_call
 io_call_served setup t (IoProc k) s upright runs = make_served t k s _ refl upright
 io_call_served setup t (IoRun k call) s upright runs = post_call_served t k call s _ refl upright runs
+io_call_served setup t (IoInterrupt k) s upright runs = interrupt_call_served t k s _ refl upright runs
 io_call_served setup t (CloseIoProc k) s upright runs = close_ioproc_served t k s _ refl upright

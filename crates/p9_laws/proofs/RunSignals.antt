@@ -59,7 +59,7 @@ signalled_on t a b c f g =
       opened = g.opened ∙ f.opened;
     }
 
--- no wait for an ioproc ends by an interrupt
+-- no wait for an ioproc ends where its thread is interrupted
 other_wait : (r : Request) → can_interrupt r ≡ true → not (asks_io r) ≡ true
 other_wait (IoRequest r) h = cc
 other_wait (ThreadRequest r) h = refl

@@ -1,8 +1,7 @@
 -- What an ioproc's event and a proc's turn do.
-use Rattle.std.proofs.Common.{◌≡◌, ◌≢◌, ℕ, ◌+◌, ◌-◌, ◌≤◌, Bool, true, false, not, cond, ◌||◌, eqb, List, Option, Some, None, refl, ap, subst, ◌∙◌, inl, inr, arith}
+use Rattle.std.proofs.Common.{◌≡◌, ◌≢◌, ℕ, ◌-◌, ◌≤◌, Bool, true, false, not, cond, ◌||◌, eqb, List, Option, Some, None, refl, ap, ◌∙◌, arith}
 use Rattle.std.specs.Prelude.{option_map}
 use Rattle.std.specs.List.{list_any}
-use Rattle.std.proofs.lemmas.Bool.{cases_eq}
 use Rattle.p9_word.specs.declared.io_call.IoCall.{IoCall}
 use Rattle.p9_word.specs.declared.io_call.Effect.{Effect}
 use Rattle.p9_word.specs.declared.setup.Setup.{Setup}
@@ -13,8 +12,7 @@ use Rattle.p9_manual.specs.declared.state.Place.TheVariants.{Running, New, Ready
 use Rattle.p9_manual.specs.declared.state.Thread.{Thread}
 use Rattle.p9_manual.specs.declared.state.Ioproc.{Ioproc}
 use Rattle.p9_manual.specs.declared.state.Ioproc.TheVariants.{Unmade, Idle, Posted, Begun, Closed}
-use Rattle.p9_manual.specs.State.{State, Outcome, by_id, pick, placed, at_place, changed, same, waits_without}
-use Rattle.p9_manual.specs.LockWaits.{is_holding, lined, lock_waiters}
+use Rattle.p9_manual.specs.State.{State, Outcome, by_id, pick, placed, at_place, same}
 use Rattle.p9_manual.specs.Ends.{Gone}
 use Rattle.p9_manual.specs.NoteCalls.{met_by, next_note, with_pending, with_proc}
 use Rattle.p9_manual.specs.Notes.{Delivery}
@@ -25,10 +23,11 @@ use Rattle.p9_manual.specs.Ioprocs.{take_call, did_call, io_event, with_ioproc, 
 use Rattle.p9_manual.specs.Next.{next_event, note_first, first_ready, next_of, turn, turn_reply, started, stuck, is_place, is_over}
 use Rattle.p9_manual.specs.Step.{makes_entry}
 use Rattle.p9_laws.specs.IoReplies.{IsBegun}
-use Rattle.p9_laws.proofs.Tallies.{tally, tally_pick, tally-changed, tally-put, tally-put_exact, tally-at, tally-filtered_out, tally-filtered_other}
-use Rattle.p9_laws.proofs.Standing.{IsUp, place_of, times_waiting, made_up, get_by_id, by_id-changed_other, times_in_line}
-use Rattle.p9_laws.proofs.RunMoves.{IsUpright, IsMoved, IsFading, is_call_of, is_long, unmoved, placed_moved, placed_upright, same_id, other_id, is_io_wait_of, io_waits, io_wait_tid, lined_other, lined_here, apart}
+use Rattle.p9_laws.proofs.Tallies.{tally, tally_pick, tally-changed, tally-put_exact}
+use Rattle.p9_laws.proofs.Standing.{place_of, times_waiting, get_by_id, by_id-changed_other, times_in_line}
+use Rattle.p9_laws.proofs.RunMoves.{IsUpright, IsMoved, IsFading, is_call_of, is_long, unmoved, placed_upright, same_id, other_id}
 use Rattle.p9_laws.proofs.FirstReady.{in_proc, first_parts}
+use Rattle.p9_laws.proofs.RunFreed.{done_for, freed_moved, freed_upright}
 use Rattle.p9_laws.proofs.RunCalls.{put_upright, begun_elsewhere}
 use Rattle.p9_laws.proofs.RunEnds.{ended_begun, ended_moved, ended_upright}
 
@@ -66,59 +65,12 @@ take_served k s (Some (Posted t call)) at upright =
 take_served k s (Some Unmade) at upright = if_io_served s (s.over || not (list_any lives s.threads)) _ _ (same_served s _ upright) (same_served s _ upright)
 take_served k s (Some Idle) at upright = if_io_served s (s.over || not (list_any lives s.threads)) _ _ (same_served s _ upright) (same_served s _ upright)
 
--- whom a begun call is for waits
-caller_waits : (k t : ℕ) (call : IoCall) (s : State) → by_id s.ioprocs k ≡ Some (Begun (Some t) call) → IsUpright s → (place_of s.threads t ≡ Waiting) × (tally (is_call_of t) s.ioprocs ≡ 1)
-caller_waits k t call s at upright =
-    let some = tally-at (is_call_of t) s.ioprocs (k - 1) (Begun (Some t) call) (get_by_id s.ioprocs k (Begun (Some t) call) at) (same_id t) in
-    let calls = upright.in_calls t in
-    let more = io_waits t s.waits in
-    let waits = upright.in_waits t in
-    waiting_calls (place_of s.threads t) (tally (is_call_of t) s.ioprocs) some (omega (arith, calls, more, waits))
-  where
-    waiting_calls : (pl : Place) (n : ℕ) → 1 ≤ n → n ≤ times_waiting pl → (pl ≡ Waiting) × (n ≡ 1)
-    waiting_calls Waiting n h k = (refl, omega arith)
-    waiting_calls New n h k = absurd (omega arith)
-    waiting_calls (Ready a) n h k = absurd (omega arith)
-    waiting_calls Running n h k = absurd (omega arith)
-    waiting_calls Ended n h k = absurd (omega arith)
-
--- nobody waits for the call of t any more, and the others do as before
-answered_calls : (k t : ℕ) (call : IoCall) (s : State) → by_id s.ioprocs k ≡ Some (Begun (Some t) call) → IsUpright s → (u : ℕ) → tally (is_io_wait_of u) (waits_without t s.waits) ≡ tally (is_call_of u) (changed (λ _. Idle) s.ioprocs (k - 1))
-answered_calls k t call s at upright u =
-    let e = tally-put_exact (is_call_of u) Idle s.ioprocs (k - 1) (Begun (Some t) call) (get_by_id s.ioprocs k (Begun (Some t) call) at) in
-    elim (cases_eq u t) [
-      | inl same ↦
-          let one = (caller_waits k t call s at upright).1 in
-          let none = tally-filtered_out (λ w. eqb w.tid t) s.waits in
-          let more = io_waits t (waits_without t s.waits) in
-          let f = subst (λ (x : ℕ). tally (is_call_of x) (changed (λ _. Idle) s.ioprocs (k - 1)) + cond (eqb t x) 1 0 ≡ tally (is_call_of x) s.ioprocs + 0) same e in
-          let g = rw (same_id t) at f in
-          rw same (omega (arith, one, none, more, g))
-      | inr ne ↦
-          let g = rw (other_id t u ne) at e in
-          let c = upright.in_calls u in
-          tally-filtered_other (λ w. eqb w.tid t) (is_io_wait_of u) (λ w h. apart w.tid t u ne (io_wait_tid u w h)) s.waits ∙ (omega (arith, g, c))
-    ]
-
-caller_up : (threads : List Thread) (t : ℕ) → place_of threads t ≡ Waiting → IsUp (place_of threads t)
-caller_up threads t e = rw e tt
-
 noted : (k : ℕ) (t : Option ℕ) (call : IoCall) (effect : Effect) (s : State) → by_id s.ioprocs k ≡ Some (Begun t call) → IsUpright s → IsIoServed s (record { reply = Noted; moved = None; state = answered t effect (with_ioproc k Idle s) })
 noted k None call effect s at upright =
     record { moved = unmoved s.threads; upright = put_upright s k (Begun None call) Idle at upright (λ u. refl) (λ u. refl) refl; over = refl; opened = refl }
 noted k (Some t) call effect s at upright =
-    let waits = (caller_waits k t call s at upright).0 in
-    let up = caller_up s.threads t waits in
-    record {
-      moved = placed_moved s.threads t (Ready _) up (λ e. cc);
-      upright = placed_upright s.threads s.line (lined (is_holding t (lock_waiters s.waits)) t s.line) s.waits (waits_without t s.waits) s.ioprocs (changed (λ _. Idle) s.ioprocs (k - 1)) t (Ready _) upright (made_up s.threads t up)
-          (lined_other _ t s.line) (lined_here _ t s.line (upright.in_line t ∙ ap times_in_line waits))
-          (λ u ne. tally-filtered_other (λ w. eqb w.tid t) (λ w. eqb w.tid u) (λ w h. apart w.tid t u ne h) s.waits)
-          (tally-filtered_out (λ w. eqb w.tid t) s.waits) (answered_calls k t call s at upright)
-          (let e = tally-put is_long Idle s.ioprocs (k - 1) in let z = upright.short in omega (arith, e, z));
-      over = refl;
-      opened = refl;
-    }
+    let freed = done_for t k call s at in
+    record { moved = freed_moved t k _ Idle _ s freed upright; upright = freed_upright t k _ Idle _ s freed upright; over = refl; opened = refl }
 
 did_served : (k : ℕ) (effect : Effect) (s : State) (o : Option Ioproc) → by_id s.ioprocs k ≡ o → IsUpright s → IsIoServed s (did_call k effect s o)
 did_served k effect s None at upright = same_served s _ upright

@@ -2,7 +2,10 @@
 use Rattle.std.specs.Prelude.{ℕ, ◌≡◌, Bool, true, false, List, Some, slice_get, nat_lt}
 use Rattle.p9_word.specs.declared.answer.Answer.{Answer}
 use Rattle.p9_word.specs.declared.answer.Answer.TheVariants.{Bad, Interrupted, Minus, Number, Text}
-use Rattle.p9_word.specs.declared.request.Request.TheVariants.{Signal as SignalRequest}
+use Rattle.p9_word.specs.declared.request.IoReq.{IoReq}
+use Rattle.p9_word.specs.declared.request.IoReq.TheVariants.{IoProc, IoRun, IoInterrupt, CloseIoProc}
+use Rattle.p9_word.specs.declared.request.Request.{Request}
+use Rattle.p9_word.specs.declared.request.Request.TheVariants.{Thread as ThreadRequest, Signal as SignalRequest, Chan as ChanRequest, Lock as LockRequest, Io as IoRequest}
 use Rattle.p9_word.specs.declared.request.SignalReq.{SignalReq}
 use Rattle.p9_word.specs.declared.request.SignalReq.TheVariants.{ThreadInt, ThreadKill, ThreadIntGrp, ThreadKillGrp, ThreadNotify, PostNote}
 use Rattle.p9_word.specs.declared.setup.Setup.{Setup}
@@ -12,21 +15,36 @@ use Rattle.p9_word.specs.declared.trail.Reply.TheVariants.{Now, Turn}
 use Rattle.p9_manual.specs.declared.state.Place.TheVariants.{Waiting}
 use Rattle.p9_laws.specs.Given.{IsGivenAt, place_before}
 
--- the requests that can interrupt threads
-abbrev pub interrupts : SignalReq → Bool
-interrupts (ThreadInt t) = true
-interrupts (ThreadKill t) = true
-interrupts (ThreadIntGrp group) = true
-interrupts (ThreadKillGrp group) = true
-interrupts (PostNote p note) = true
-interrupts (ThreadNotify on id prefix) = false
+-- the requests on threads and notes that can interrupt threads
+abbrev pub signal_interrupts : SignalReq → Bool
+signal_interrupts (ThreadInt t) = true
+signal_interrupts (ThreadKill t) = true
+signal_interrupts (ThreadIntGrp group) = true
+signal_interrupts (ThreadKillGrp group) = true
+signal_interrupts (PostNote p note) = true
+signal_interrupts (ThreadNotify on id prefix) = false
+
+-- the one on ioprocs that can: it ends the wait for an ioproc's call
+abbrev pub io_interrupts : IoReq → Bool
+io_interrupts (IoProc k) = false
+io_interrupts (IoRun k call) = false
+io_interrupts (IoInterrupt k) = true
+io_interrupts (CloseIoProc k) = false
+
+-- the requests that can interrupt threads are these
+abbrev pub interrupts : Request → Bool
+interrupts (ThreadRequest r) = false
+interrupts (SignalRequest r) = signal_interrupts r
+interrupts (ChanRequest r) = false
+interrupts (LockRequest r) = false
+interrupts (IoRequest r) = io_interrupts r
 
 -- the entry is such a call, which is answered at once
 pub record IsInterruption (e : Entry) : Type 0 where
   pub caller : ℕ
-  pub request : SignalReq
+  pub request : Request
   pub answer : Answer
-  pub is_call : e.event ≡ Call caller (SignalRequest request)
+  pub is_call : e.event ≡ Call caller request
   pub can_interrupt : interrupts request ≡ true
   pub answered : e.reply ≡ Now answer
 

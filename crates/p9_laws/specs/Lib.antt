@@ -10,6 +10,7 @@ pub mod CopySetup
 pub mod Ending
 pub mod Shorthand
 pub mod Given
+pub mod IoExamples
 pub mod IoReplies
 pub mod LastCall
 pub mod LockExamples

@@ -19,7 +19,8 @@ pub fn each_answer_was_given()
     ensures { (setup : Setup) (entries : List Entry) → IsValid setup → IsLegal setup entries → AnswersGiven setup entries }
 {}
 
-/// A thread that is told Interrupted waited until a call that can interrupt threads was answered, which gave it that answer.
+/// A thread that is told Interrupted waited until a call that can interrupt threads was answered, which gave it that answer: an
+/// interrupt or a kill, of one thread or of a group, a note, or the end of a wait for an ioproc's call.
 pub fn interrupts_have_their_cause()
     ensures { (setup : Setup) (entries : List Entry) → IsValid setup → IsLegal setup entries → InterruptsCaused setup entries }
 {}

@@ -12,6 +12,7 @@ ghost use Rattle.p9_laws.specs.LockExamples.{rendez_setup, slept_and_woken, Show
 ghost use Rattle.p9_laws.specs.LockExamples.{meeting_setup, met, ShowsTheMeeting, alone_setup, never_met, ShowsTheHeldProc};
 ghost use Rattle.p9_laws.specs.SignalExamples.{interrupt_setup, interrupted_once, ShowsTheInterrupt};
 ghost use Rattle.p9_laws.specs.SignalExamples.{kill_setup, killed_with_a_lock, ShowsTheKill};
+ghost use Rattle.p9_laws.specs.IoExamples.{write_setup, interrupted_write, ShowsTheWrite};
 ghost use Rattle.p9_laws.specs.SignalExamples.{note_setup, killed_by_a_note, caught_note, ShowsTheNote};
 
 /// The copy of a file of the two bytes `hi` is a legal history of a copy's setup.
@@ -144,4 +145,15 @@ pub fn dying_by_a_note_ends_the_turns()
 /// A note that a handler catches is told at a turn, and the thread goes on at the next one: a legal history.
 pub fn catching_a_note_is_legal()
     ensures { IsLegal note_setup caught_note }
+{}
+
+/// A thread waits for a write that its ioproc has begun, and another thread interrupts its wait, which has an effect only
+/// once: a legal history.
+pub fn interrupting_a_call_is_legal()
+    ensures { IsLegal write_setup interrupted_write }
+{}
+
+/// The call goes on for nobody, and its bytes are written. Then the ioproc is idle.
+pub fn interrupting_a_call_leaves_it_begun()
+    ensures { ShowsTheWrite }
 {}

@@ -18,7 +18,7 @@ use Rattle.p9_manual.specs.Offers.{Alternation, alternation, parties}
 use Rattle.p9_manual.specs.ReadyEntries.{fits, unfreed}
 use Rattle.p9_manual.specs.State.{State, by_id}
 use Rattle.p9_manual.specs.Told.{failed_answer}
-use Rattle.p9_laws.specs.Causes.{interrupts}
+use Rattle.p9_laws.specs.Causes.{io_interrupts, signal_interrupts}
 
 -- the answer tells of an entry that went on
 abbrev pub passes : Answer → Bool
@@ -64,10 +64,10 @@ pub data WokenByChan (s : State) (r : ChanReq) (u : ℕ) (a : Answer) : Type 0 w
 -- who is woken by a request, with which answers
 abbrev pub WokenBy : State → Request → ℕ → Answer → Type 0
 WokenBy s (ThreadRequest r) u a = ⊥
-WokenBy s (SignalRequest r) u a = (interrupts r ≡ true) × (a ≡ Interrupted)
+WokenBy s (SignalRequest r) u a = (signal_interrupts r ≡ true) × (a ≡ Interrupted)
 WokenBy s (ChanRequest r) u a = WokenByChan s r u a
 WokenBy s (LockRequest r) u a = tells_lock a ≡ true
-WokenBy s (IoRequest r) u a = ⊥
+WokenBy s (IoRequest r) u a = (io_interrupts r ≡ true) × (a ≡ Interrupted)
 
 -- the answer that the verdict on an alt gives to its caller
 abbrev pub verdict_tells : Verdict → Option Answer

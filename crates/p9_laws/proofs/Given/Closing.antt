@@ -258,7 +258,7 @@ request_closed setup seat s u t (ThreadRequest r) served h = absurd h
 request_closed setup seat s u t (SignalRequest r) served h = let e = h.1 in cc
 request_closed setup seat s u t (ChanRequest r) served h = let k = chan_closed seat s u t r served h in OfClose k.0 k.1 k.2
 request_closed setup seat s u t (LockRequest r) served h = cc
-request_closed setup seat s u t (IoRequest r) served h = absurd h
+request_closed setup seat s u t (IoRequest r) served h = let e = h.1 in cc
 
 event_closed : (setup : Setup) (seat : Seat) (event : Event) (s : State) (t : ℕ) → makes_entry (step setup seat event s).reply ≡ true → WokenAt s event t Closed → GivesClosed setup seat event s t
 event_closed setup seat (Call u r) s t makes h = request_closed setup seat s u t r (step_runs setup seat u r s makes) h

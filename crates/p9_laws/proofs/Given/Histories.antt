@@ -25,7 +25,8 @@ use Rattle.p9_laws.proofs.Sound.Stand.{eqb_same}
 use Rattle.p9_laws.proofs.Given.Causes.{WokenAt}
 use Rattle.p9_laws.proofs.Given.Entries.{IsAt, earlier, is_at}
 use Rattle.p9_laws.proofs.Given.Goes.{Goes, Leaves, Stays, Wakes, is_apart}
-use Rattle.p9_laws.proofs.Given.Steps.{Other, Own, Steps, aligned, is_call_of, step_steps}
+use Rattle.p9_laws.proofs.Given.Ioprocs.{aligned}
+use Rattle.p9_laws.proofs.Given.Steps.{Other, Own, Steps, is_call_of, step_steps}
 
 -- before position n: whoever stands ready was given its answer, and whoever waits made a call
 record IsDue (setup : Setup) (H : List Entry) (n t : ℕ) : Type 0 where

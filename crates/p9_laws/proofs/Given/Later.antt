@@ -70,7 +70,7 @@ request_later s u (ThreadRequest r) a h = absurd h
 request_later s u (SignalRequest r) a h = let e = h.1 in rw e refl
 request_later s u (ChanRequest r) a h = chan_later s r u a h
 request_later s u (LockRequest r) a h = lock_later a h
-request_later s u (IoRequest r) a h = absurd h
+request_later s u (IoRequest r) a h = let e = h.1 in rw e refl
 
 woken_later : (s : State) (event : Event) (u : ℕ) (a : Answer) → WokenAt s event u a → comes_later a ≡ true
 woken_later s (Call t r) u a h = request_later s u r a h

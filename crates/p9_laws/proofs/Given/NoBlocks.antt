@@ -50,7 +50,7 @@ request_wakes s (ThreadRequest r) u h = h
 request_wakes s (SignalRequest r) u h = let e = h.1 in cc
 request_wakes s (ChanRequest r) u h = chan_wakes s r u h
 request_wakes s (LockRequest r) u h = cc
-request_wakes s (IoRequest r) u h = h
+request_wakes s (IoRequest r) u h = let e = h.1 in cc
 
 -- nobody is woken with NoBlock
 event_wakes : (s : State) (event : Event) (u : ℕ) → WokenAt s event u NoBlock → ⊥

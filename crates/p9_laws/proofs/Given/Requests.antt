@@ -1,4 +1,4 @@
--- Requests on threads, channels and ioprocs: whom they wake, and which answers their caller has.
+-- Requests on threads and channels: whom they wake, and which answers their caller has.
 use Rattle.std.proofs.Common.{◌≡◌, ℕ, suc, ◌+◌, ◌-◌, Bool, true, false, cond, ltb, eqb, List, [], ◌∷◌, ◌++◌, length, map, Option, Some, None, refl, rules, tests}
 use Rattle.std.specs.Prelude.{All, nat_le, slice_get}
 use Rattle.std.specs.List.{filter}
@@ -6,17 +6,12 @@ use Rattle.std.proofs.lemmas.List.Elements.{All-cons, All-head, All-nil, All-tai
 use Rattle.p9_word.specs.declared.limits.TheConstants.{MOST_CHANNELS}
 use Rattle.p9_word.specs.declared.answer.Answer.{Answer}
 use Rattle.p9_word.specs.declared.answer.Answer.TheVariants.{Done, Closed, NoBlock, Number}
-use Rattle.p9_word.specs.declared.io_call.IoCall.{IoCall}
 use Rattle.p9_word.specs.declared.request.ChanReq.{ChanReq}
 use Rattle.p9_word.specs.declared.request.ChanReq.TheVariants as ask
-use Rattle.p9_word.specs.declared.request.IoReq.{IoReq}
-use Rattle.p9_word.specs.declared.request.IoReq.TheVariants.{IoProc, IoRun, CloseIoProc}
 use Rattle.p9_word.specs.declared.request.Request.{Request}
 use Rattle.p9_word.specs.declared.request.Request.TheVariants.{Chan as ChanRequest}
 use Rattle.p9_word.specs.declared.setup.Setup.{Setup}
 use Rattle.p9_manual.specs.declared.state.Channel.{Channel}
-use Rattle.p9_manual.specs.declared.state.Ioproc.{Ioproc}
-use Rattle.p9_manual.specs.declared.state.Ioproc.TheVariants.{Unmade, Idle, Posted, Begun, Closed as ClosedIoproc}
 use Rattle.p9_manual.specs.declared.state.Party.{Party}
 use Rattle.p9_manual.specs.declared.state.Place.TheVariants.{Running, Waiting}
 use Rattle.p9_word.specs.declared.alt.Ending.{Ending}
@@ -28,8 +23,6 @@ use Rattle.p9_manual.specs.Close.{all_woken, close, close_channel, closed_chan, 
 use Rattle.p9_manual.specs.Commit.{Deal}
 use Rattle.p9_manual.specs.Create.{fresh}
 use Rattle.p9_manual.specs.Draws.{draw_after}
-use Rattle.p9_manual.specs.Effects.{message_length}
-use Rattle.p9_manual.specs.Ioprocs.{close_ioproc, io_call, make, post_call}
 use Rattle.p9_manual.specs.Offers.{Alternation, alternation, parties, party}
 use Rattle.p9_manual.specs.ReadyEntries.{fits, ready_entries, unfreed}
 use Rattle.p9_manual.specs.Standing.{place_of}
@@ -67,37 +60,6 @@ module _ (P : ℕ → Answer → Type 0) (Q : Answer → Type 0) (t : ℕ) (s : 
 
   either : (b : Bool) (o p : Outcome) → Replies P Q t s.threads o.state.threads → Replies P Q t s.threads p.state.threads → Replies P Q t s.threads (cond b o p).state.threads
   either b o p f g = if_replies P Q t s.threads b o p (λ _. f) (λ _. g)
-
-  make_replies : (k : ℕ) (o : Option Ioproc) → Replies P Q t s.threads (make k s o).state.threads
-  make_replies k (Some Unmade) = same
-  make_replies k (Some Idle) = same
-  make_replies k (Some (Posted u call)) = same
-  make_replies k (Some (Begun u call)) = same
-  make_replies k (Some ClosedIoproc) = same
-  make_replies k None = same
-
-  post_replies : (k : ℕ) (call : IoCall) (o : Option Ioproc) → Replies P Q t s.threads (post_call t k call s o).state.threads
-  post_replies k call (Some Idle) = either (ltb 4294967295 (message_length call)) _ _ same (wait_replies P Q t s.threads s.threads runs (λ u. Stays (place_of s.threads u)))
-  post_replies k call (Some Unmade) = same
-  post_replies k call (Some (Posted u other)) = same
-  post_replies k call (Some (Begun u other)) = same
-  post_replies k call (Some ClosedIoproc) = same
-  post_replies k call None = same
-
-  close_io_replies : (k : ℕ) (o : Option Ioproc) → Replies P Q t s.threads (close_ioproc k s o).state.threads
-  close_io_replies k (Some Idle) = same
-  close_io_replies k (Some Unmade) = same
-  close_io_replies k (Some (Posted u call)) = same
-  close_io_replies k (Some (Begun u call)) = same
-  close_io_replies k (Some ClosedIoproc) = same
-  close_io_replies k None = same
-
-  -- a request on ioprocs
-  pub io_replies : (setup : Setup) (r : IoReq) → Replies P Q t s.threads (io_call setup t r s).state.threads
-  unfolding io_call
-  io_replies setup (IoProc k) = make_replies k (by_id s.ioprocs k)
-  io_replies setup (IoRun k call) = post_replies k call (by_id s.ioprocs k)
-  io_replies setup (CloseIoProc k) = close_io_replies k (by_id s.ioprocs k)
 
   free_replies : (c : ℕ) (o : Option Channel) → Replies P Q t s.threads (free c s o).state.threads
   free_replies c None = same

@@ -27,7 +27,8 @@ use Rattle.p9_laws.proofs.Sound.Places.{made_from_place, place_of-placed_same}
 use Rattle.p9_laws.proofs.Sound.Running.{place_runs}
 use Rattle.p9_laws.proofs.Given.Causes.{ToldBy, WokenAt}
 use Rattle.p9_laws.proofs.Given.Goes.{Goes, Leaves, Stays, Wakes, is_apart}
-use Rattle.p9_laws.proofs.Given.Steps.{Other, Own, Steps, aligned, step_steps}
+use Rattle.p9_laws.proofs.Given.Ioprocs.{aligned}
+use Rattle.p9_laws.proofs.Given.Steps.{Other, Own, Steps, step_steps}
 
 -- the event that gives a thread an answer: its own call, or one that wakes it
 pub data IsCause (setup : Setup) (seat : Seat) (event : Event) (s : State) (t : ℕ) (a : Answer) : Type 0 where

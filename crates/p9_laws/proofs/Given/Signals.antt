@@ -16,7 +16,7 @@ use Rattle.p9_manual.specs.Places.{lives}
 use Rattle.p9_manual.specs.Signals.{signal_call}
 use Rattle.p9_manual.specs.State.{State, Proc, by_id}
 use Rattle.p9_manual.specs.Standing.{place_of}
-use Rattle.p9_laws.specs.Causes.{interrupts}
+use Rattle.p9_laws.specs.Causes.{signal_interrupts}
 use Rattle.p9_laws.proofs.Sound.Stand.{eqb_equal}
 use Rattle.p9_laws.proofs.Given.Goes.{Rests, Woken, stays_woken, woken_left, woken_wake}
 use Rattle.p9_laws.proofs.Given.Replies.{Replies, go_replies, same_replies, if_replies}
@@ -104,7 +104,7 @@ module _ (P : ℕ → Answer → Type 0) (s : State) where
         (λ _. woken_replies (with_posted p note s) (interrupted_woken holds (find (meets_in p s.threads) s.waits) (with_proc (with_note note) p s) (record { each = (stays_woken P s rests).each; rests = rests })))
 
 -- a request that interrupts threads, or is about the handlers of notes
-pub signal_replies : (Q : Answer → Type 0) (t : ℕ) (r : SignalReq) (s : State) → place_of s.threads t ≡ Running → Rests s.threads s.waits → Replies (λ u a. (interrupts r ≡ true) × (a ≡ Interrupted)) Q t s.threads (signal_call t r s).state.threads
+pub signal_replies : (Q : Answer → Type 0) (t : ℕ) (r : SignalReq) (s : State) → place_of s.threads t ≡ Running → Rests s.threads s.waits → Replies (λ u a. (signal_interrupts r ≡ true) × (a ≡ Interrupted)) Q t s.threads (signal_call t r s).state.threads
 unfolding signal_call
 signal_replies Q t (ask.ThreadInt u) s runs rests =
     let P : ℕ → Answer → Type 0 = λ u a. (true ≡ true) × (a ≡ Interrupted) in

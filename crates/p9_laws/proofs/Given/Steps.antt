@@ -1,13 +1,11 @@
 -- Each event that makes an entry: who has an answer after it that had none before, and whose answer a turn tells.
-use Rattle.std.proofs.Common.{◌≡◌, ◌⊎◌, inl, inr, ℕ, Bool, true, false, not, cond, ◌||◌, eqb, List, [], ◌∷◌, Option, Some, None, refl, subst}
-use Rattle.std.specs.Prelude.{All, option_map}
+use Rattle.std.proofs.Common.{◌≡◌, ◌⊎◌, inl, inr, ℕ, Bool, true, false, not, cond, ◌||◌, eqb, List, Option, Some, None, refl, subst}
+use Rattle.std.specs.Prelude.{option_map}
 use Rattle.std.specs.List.{list_any}
-use Rattle.std.proofs.lemmas.List.Elements.{All-append, All-cons, All-head, All-nil, All-tail}
 use Rattle.p9_word.specs.declared.answer.Answer.{Answer}
 use Rattle.p9_word.specs.declared.answer.Answer.TheVariants.{Io as IoAnswered}
 use Rattle.p9_word.specs.declared.io_call.Effect.{Effect}
 use Rattle.p9_word.specs.declared.io_call.IoCall.{IoCall}
-use Rattle.p9_word.specs.declared.request.IoReq.TheVariants.{IoProc, IoRun, CloseIoProc}
 use Rattle.p9_word.specs.declared.request.Request.{Request}
 use Rattle.p9_word.specs.declared.request.Request.TheVariants.{Thread as ThreadRequest, Signal as SignalRequest, Chan as ChanRequest, Lock as LockRequest, Io as IoRequest}
 use Rattle.p9_word.specs.declared.setup.Setup.{Setup}
@@ -19,9 +17,8 @@ use Rattle.p9_word.specs.declared.trail.Seat.TheVariants.{Proc, Io as IoSeat}
 use Rattle.p9_manual.specs.declared.state.Ioproc.{Ioproc}
 use Rattle.p9_manual.specs.declared.state.Ioproc.TheVariants.{Unmade, Idle, Posted, Begun, Closed as ClosedIoproc}
 use Rattle.p9_manual.specs.declared.state.Place.{Place}
-use Rattle.p9_manual.specs.declared.state.Place.TheVariants.{Running, Ready, Waiting}
+use Rattle.p9_manual.specs.declared.state.Place.TheVariants.{Running, Ready}
 use Rattle.p9_manual.specs.declared.state.Thread.{Thread}
-use Rattle.p9_manual.specs.declared.state.Waiter.{Waiter}
 use Rattle.p9_manual.specs.Effects.{fits}
 use Rattle.p9_manual.specs.Ends.{ended}
 use Rattle.p9_manual.specs.Ioprocs.{answered, did_call, effect_answer, io_event, take_call, with_ioproc}
@@ -29,7 +26,7 @@ use Rattle.p9_manual.specs.Next.{first_ready, is_over, is_place, next_event, nex
 use Rattle.p9_manual.specs.NoteCalls.{met_by, next_note, with_pending, with_proc}
 use Rattle.p9_manual.specs.Notes.{Delivery}
 use Rattle.p9_manual.specs.Places.{is_of, lives, runs_in, runs_there}
-use Rattle.p9_manual.specs.Sound.{IsSound, call_at, call_in, call_of, waiting_calls}
+use Rattle.p9_manual.specs.Sound.{call_of, waiting_calls}
 use Rattle.p9_manual.specs.Standing.{place_of}
 use Rattle.p9_manual.specs.State.{State, Outcome, by_id, placed, replied, same}
 use Rattle.p9_manual.specs.Step.{called, counted, is_doomed, makes_entry, outcome, served, step}
@@ -39,10 +36,11 @@ use Rattle.p9_laws.proofs.Received.Places.{place_moved}
 use Rattle.p9_laws.proofs.Sound.Running.{place_runs}
 use Rattle.p9_laws.proofs.Sound.Stand.{eqb_equal, eqb_same}
 use Rattle.p9_laws.proofs.Given.Causes.{ToldBy, WokenAt, WokenBy, tells_io}
-use Rattle.p9_laws.proofs.Given.Goes.{Goes, Leaves, Rests, Stays, is_apart, rests_once, woken_wake}
+use Rattle.p9_laws.proofs.Given.Goes.{Goes, Leaves, Rests, Stays, is_apart, woken_wake}
+use Rattle.p9_laws.proofs.Given.Ioprocs.{IsAligned, call_waits, io_replies}
 use Rattle.p9_laws.proofs.Given.Locks.{lock_replies}
 use Rattle.p9_laws.proofs.Given.Replies.{AllGo, Replies, end_goes, go_replies}
-use Rattle.p9_laws.proofs.Given.Requests.{chan_replies, io_replies, thread_replies}
+use Rattle.p9_laws.proofs.Given.Requests.{chan_replies, thread_replies}
 use Rattle.p9_laws.proofs.Given.Signals.{signal_replies}
 
 -- the event is a call of this thread
@@ -52,28 +50,19 @@ is_call_of u Next = false
 is_call_of u IoTake = false
 is_call_of u (IoDid effect) = false
 
--- who is among the waits waits, as do those for whom ioprocs have calls
-pub record IsAligned (s : State) : Type 0 where
-  pub rests : Rests s.threads s.waits
-  pub calls : (k : ℕ) → waiting_calls k s.waits ≡ call_of (by_id s.ioprocs k)
-
--- a sound state is so
-pub aligned : (setup : Setup) (s : State) → IsSound setup s → IsAligned s
-aligned setup s sound = record { rests = rests_once s.threads s.line s.waits sound.stand; calls = sound.calls.calls }
-
 -- what an event makes of the place of thread u: it makes a call, and may have the answer of that; or it makes none
 pub data Steps (setup : Setup) (s : State) (seat : Seat) (event : Event) (u : ℕ) (after : Place) : Type 0 where
   Own : (p : ℕ) (r : Request) → seat ≡ Proc p → event ≡ Call u r → runs_there p (by_id s.threads u) ≡ true
       → ((a : Answer) → after ≡ Ready a → (is_doomed u r s ≡ false) × ToldBy setup s u r a) → Steps setup s seat event u after
   Other : is_call_of u event ≡ false → Goes (WokenAt s event u) (place_of s.threads u) after → Steps setup s seat event u after
 
-served_replies : (setup : Setup) (t : ℕ) (r : Request) (s : State) → place_of s.threads t ≡ Running → Rests s.threads s.waits → Replies (WokenBy s r) (ToldBy setup s t r) t s.threads (served setup t r s).state.threads
+served_replies : (setup : Setup) (t : ℕ) (r : Request) (s : State) → place_of s.threads t ≡ Running → IsAligned s → Replies (WokenBy s r) (ToldBy setup s t r) t s.threads (served setup t r s).state.threads
 unfolding served
-served_replies setup t (ThreadRequest r) s runs rests = thread_replies (λ u a. ⊥) setup t s _ runs (thread_call_does setup t r s)
-served_replies setup t (SignalRequest r) s runs rests = signal_replies (λ a. ⊥) t r s runs rests
-served_replies setup t (ChanRequest r) s runs rests = chan_replies setup t s runs rests r
-served_replies setup t (LockRequest r) s runs rests = lock_replies setup t r s runs rests
-served_replies setup t (IoRequest r) s runs rests = io_replies (λ u a. ⊥) (λ a. ⊥) t s runs setup r
+served_replies setup t (ThreadRequest r) s runs aligned = thread_replies (λ u a. ⊥) setup t s _ runs (thread_call_does setup t r s)
+served_replies setup t (SignalRequest r) s runs aligned = signal_replies (λ a. ⊥) t r s runs aligned.rests
+served_replies setup t (ChanRequest r) s runs aligned = chan_replies setup t s runs aligned.rests r
+served_replies setup t (LockRequest r) s runs aligned = lock_replies setup t r s runs aligned.rests
+served_replies setup t (IoRequest r) s runs aligned = io_replies (λ a. ⊥) setup t r s runs aligned
 
 -- thread u is the caller or another one
 call_steps : (setup : Setup) (p t : ℕ) (r : Request) (s : State) (after : List Thread) → runs_there p (by_id s.threads t) ≡ true → Replies (WokenBy s r) (λ a. (is_doomed t r s ≡ false) × ToldBy setup s t r a) t s.threads after → (u : ℕ) (b : Bool) → eqb t u ≡ b → Steps setup s (Proc p) (Call t r) u (place_of after u)
@@ -93,12 +82,12 @@ if_called setup p t r s false c o n u e d f g makes = cc
 if_called setup p t r s true true o n u e d f g makes = call_steps setup p t r s o.state.threads e (f refl) u (eqb t u) refl
 if_called setup p t r s true false o n u e d f g makes = call_steps setup p t r s n.state.threads e (g refl refl) u (eqb t u) refl
 
-called_steps : (setup : Setup) (p t : ℕ) (r : Request) (s : State) → Rests s.threads s.waits → (u : ℕ) → makes_entry (called setup p t r s).reply ≡ true → Steps setup s (Proc p) (Call t r) u (place_of (called setup p t r s).state.threads u)
+called_steps : (setup : Setup) (p t : ℕ) (r : Request) (s : State) → IsAligned s → (u : ℕ) → makes_entry (called setup p t r s).reply ≡ true → Steps setup s (Proc p) (Call t r) u (place_of (called setup p t r s).state.threads u)
 unfolding called
-called_steps setup p t r s rests u makes =
+called_steps setup p t r s aligned u makes =
     if_called setup p t r s (runs_there p (by_id s.threads t)) (is_doomed t r s) (replied EndedReply (ended t s)) (served setup t r s) u refl refl
     (λ e. ended_replies setup t r s _ (place_runs p (by_id s.threads t) e))
-    (λ e d. more_replies (WokenBy s r) (ToldBy setup s t r) _ t s.threads _ (λ a told. (d, told)) (served_replies setup t r s (place_runs p (by_id s.threads t) e) rests))
+    (λ e d. more_replies (WokenBy s r) (ToldBy setup s t r) _ t s.threads _ (λ a told. (d, told)) (served_replies setup t r s (place_runs p (by_id s.threads t) e) aligned))
     makes
 
 -- nobody is woken
@@ -157,40 +146,10 @@ take_goes k s (Some Idle) = if_go Nobody s.threads (s.over || not (list_any live
 abbrev ByEffect : ℕ → Answer → Type 0
 ByEffect u a = tells_io a ≡ true
 
--- each of these calls is one of a thread that waits
-abbrev CallersRest : List Thread → List (ℕ × IoCall) → Type 0
-CallersRest threads calls = All (λ x. place_of threads x.0 ≡ Waiting) calls
-
-if_rests : (threads : List Thread) (b : Bool) (t : ℕ) (call : IoCall) → place_of threads t ≡ Waiting → CallersRest threads (cond b ((t, call) ∷ []) [])
-if_rests threads true t call h = All-cons (λ (x : ℕ × IoCall). place_of threads x.0 ≡ Waiting) (t, call) [] h (All-nil (λ x. place_of threads x.0 ≡ Waiting))
-if_rests threads false t call h = All-nil (λ x. place_of threads x.0 ≡ Waiting)
-
-call_rests : (threads : List Thread) (k t : ℕ) (r : Request) → place_of threads t ≡ Waiting → CallersRest threads (call_in k t r)
-call_rests threads k t (IoRequest (IoRun j call)) h = if_rests threads (eqb j k) t call h
-call_rests threads k t (IoRequest (IoProc j)) h = All-nil (λ x. place_of threads x.0 ≡ Waiting)
-call_rests threads k t (IoRequest (CloseIoProc j)) h = All-nil (λ x. place_of threads x.0 ≡ Waiting)
-call_rests threads k t (ThreadRequest r) h = All-nil (λ x. place_of threads x.0 ≡ Waiting)
-call_rests threads k t (SignalRequest r) h = All-nil (λ x. place_of threads x.0 ≡ Waiting)
-call_rests threads k t (ChanRequest r) h = All-nil (λ x. place_of threads x.0 ≡ Waiting)
-call_rests threads k t (LockRequest r) h = All-nil (λ x. place_of threads x.0 ≡ Waiting)
-
-callers_rest : (threads : List Thread) (k : ℕ) → (waits : List Waiter) → Rests threads waits → CallersRest threads (waiting_calls k waits)
-callers_rest threads k [] rests = All-nil (λ x. place_of threads x.0 ≡ Waiting)
-callers_rest threads k (w ∷ ws) rests =
-    All-append (λ (x : ℕ × IoCall). place_of threads x.0 ≡ Waiting) (call_at k w) (waiting_calls k ws)
-    (call_rests threads k w.tid w.request (All-head (λ x. place_of threads x.tid ≡ Waiting) w ws rests))
-    (callers_rest threads k ws (All-tail (λ x. place_of threads x.tid ≡ Waiting) w ws rests))
-
--- the thread that a begun call is for waits
-caller_waits : (threads : List Thread) (t : ℕ) (call : IoCall) (calls : List (ℕ × IoCall)) → calls ≡ (t, call) ∷ [] → CallersRest threads calls → place_of threads t ≡ Waiting
-caller_waits threads t call calls e rest =
-    let all = subst (CallersRest threads) e rest in
-    All-head (λ (x : ℕ × IoCall). place_of threads x.0 ≡ Waiting) (t, call) [] all
-
 answered_goes : (effect : Effect) (k : ℕ) (call : IoCall) (s : State) (t : Option ℕ) → Rests s.threads s.waits → waiting_calls k s.waits ≡ call_of (Some (Begun t call)) → AllGo ByEffect s.threads (answered t effect (with_ioproc k Idle s)).threads
 answered_goes effect k call s None rests e = stay ByEffect s.threads
 answered_goes effect k call s (Some t) rests e =
-    let waits = caller_waits s.threads t call (waiting_calls k s.waits) e (callers_rest s.threads k s.waits rests) in
+    let waits = call_waits k t call s rests e in
     (woken_wake ByEffect s (with_ioproc k Idle s) t (IoAnswered (effect_answer effect)) waits refl (record { each = stay ByEffect s.threads; rests = rests })).each
 
 did_goes : (k : ℕ) (effect : Effect) (s : State) (o : Option Ioproc) → Rests s.threads s.waits → waiting_calls k s.waits ≡ call_of o → AllGo ByEffect s.threads (did_call k effect s o).state.threads
@@ -211,7 +170,7 @@ io_did_goes k effect s aligned = did_goes k effect s (by_id s.ioprocs k) aligned
 
 outcome_steps : (setup : Setup) (seat : Seat) (event : Event) (s : State) → IsAligned s → (u : ℕ) → makes_entry (outcome setup seat event s).reply ≡ true → Steps setup s seat event u (place_of (outcome setup seat event s).state.threads u)
 unfolding outcome
-outcome_steps setup (Proc p) (Call t r) s aligned u makes = called_steps setup p t r s aligned.rests u makes
+outcome_steps setup (Proc p) (Call t r) s aligned u makes = called_steps setup p t r s aligned u makes
 outcome_steps setup (Proc p) Next s aligned u makes = Other refl (next_goes setup p s u)
 outcome_steps setup (Proc p) IoTake s aligned u makes = cc
 outcome_steps setup (Proc p) (IoDid effect) s aligned u makes = cc

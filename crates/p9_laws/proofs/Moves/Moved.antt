@@ -7,7 +7,7 @@ use Rattle.p9_word.specs.declared.request.Request.TheVariants.{Chan as ChanReque
 use Rattle.p9_word.specs.declared.request.ChanReq.{ChanReq}
 use Rattle.p9_word.specs.declared.request.IoReq.{IoReq}
 use Rattle.p9_word.specs.declared.request.LockReq.{LockReq}
-use Rattle.p9_word.specs.declared.request.IoReq.TheVariants.{IoProc, IoRun, CloseIoProc}
+use Rattle.p9_word.specs.declared.request.IoReq.TheVariants.{IoProc, IoRun, IoInterrupt, CloseIoProc}
 use Rattle.p9_word.specs.declared.io_call.IoCall.{IoCall}
 use Rattle.p9_word.specs.declared.io_call.Effect.{Effect}
 use Rattle.p9_word.specs.declared.setup.Setup.{Setup}
@@ -23,7 +23,7 @@ use Rattle.p9_manual.specs.ReadyEntries.{fits as fits_all}
 use Rattle.p9_manual.specs.Alt.{Verdict, AllClosed, Commits, NoneReady, MustWait, verdict_of, with_draw, decided}
 use Rattle.p9_manual.specs.Chans.{on_channel, by_alternation, chan_call}
 use Rattle.p9_manual.specs.Effects.{fits, message_length}
-use Rattle.p9_manual.specs.Ioprocs.{make, post_call, close_ioproc, io_call, take_call, did_call, io_event}
+use Rattle.p9_manual.specs.Ioprocs.{make, post_call, interrupt_begun, interrupt_call, close_ioproc, io_call, take_call, did_call, io_event}
 use Rattle.p9_manual.specs.Locks.{lock_call}
 use Rattle.p9_manual.specs.Next.{next_event, next_of, first_ready, note_first, turn, is_place, is_over, started}
 use Rattle.p9_manual.specs.NoteCalls.{met_by, next_note, with_pending, with_proc}
@@ -124,10 +124,20 @@ close_ioproc_none : (k : ℕ) (s : State) (o : Option Ioproc) → MovesNone (clo
 close_ioproc_none k s (Some Idle) = refl
 close_ioproc_none k s o = refl
 
+interrupt_begun_none : (k : ℕ) (call : IoCall) (s : State) (caller : Option ℕ) → MovesNone (interrupt_begun k call s caller)
+interrupt_begun_none k call s None = refl
+interrupt_begun_none k call s (Some t) = refl
+
+interrupt_call_none : (k : ℕ) (s : State) (o : Option Ioproc) → MovesNone (interrupt_call k s o)
+interrupt_call_none k s (Some (Posted t call)) = refl
+interrupt_call_none k s (Some (Begun caller call)) = interrupt_begun_none k call s caller
+interrupt_call_none k s o = refl
+
 io_call_none : (setup : Setup) (t : ℕ) (r : IoReq) (s : State) → MovesNone (io_call setup t r s)
 unfolding io_call
 io_call_none setup t (IoProc k) s = make_none k s (by_id s.ioprocs k)
 io_call_none setup t (IoRun k call) s = post_call_none t k call s (by_id s.ioprocs k)
+io_call_none setup t (IoInterrupt k) s = interrupt_call_none k s (by_id s.ioprocs k)
 io_call_none setup t (CloseIoProc k) s = close_ioproc_none k s (by_id s.ioprocs k)
 
 take_none : (k : ℕ) (s : State) (o : Option Ioproc) → MovesNone (take_call k s o)

@@ -13,7 +13,7 @@ use Rattle.p9_word.specs.declared.request.IoReq.{IoReq}
 use Rattle.p9_word.specs.declared.request.LockReq.{LockReq}
 use Rattle.p9_word.specs.declared.request.SignalReq.{SignalReq}
 use Rattle.p9_word.specs.declared.request.LockReq.TheVariants.{RSleep}
-use Rattle.p9_word.specs.declared.request.IoReq.TheVariants.{IoProc, IoRun, CloseIoProc}
+use Rattle.p9_word.specs.declared.request.IoReq.TheVariants.{IoProc, IoRun, IoInterrupt, CloseIoProc}
 use Rattle.p9_word.specs.declared.io_call.IoCall.{IoCall}
 use Rattle.p9_word.specs.declared.io_call.Effect.{Effect}
 use Rattle.p9_manual.specs.declared.state.Channel.{Channel}
@@ -27,7 +27,7 @@ use Rattle.p9_manual.specs.Close.{closed_chan, freed_chan, all_failed, all_woken
 use Rattle.p9_manual.specs.Effects.{fits, message_length}
 use Rattle.p9_manual.specs.Ends.{Gone, ended_where}
 use Rattle.p9_manual.specs.Interrupt.{marked}
-use Rattle.p9_manual.specs.Ioprocs.{with_ioproc, make, post_call, close_ioproc, io_call, take_call, answered, did_call, io_event}
+use Rattle.p9_manual.specs.Ioprocs.{with_ioproc, make, post_call, interrupt_begun, interrupt_call, close_ioproc, io_call, take_call, answered, did_call, io_event}
 use Rattle.p9_manual.specs.LockCalls.{all_granted, with_grant, with_holds}
 use Rattle.p9_manual.specs.LockWaits.{lock_waiters}
 use Rattle.p9_manual.specs.Locks.{lock_call}
@@ -161,10 +161,23 @@ close_ioproc_leaves k s (Some (Begun t call)) = λ H n ms h. h
 close_ioproc_leaves k s (Some Closed) = λ H n ms h. h
 close_ioproc_leaves k s None = λ H n ms h. h
 
+interrupt_begun_leaves : (k : ℕ) (call : IoCall) (s : State) (caller : Option ℕ) → Leaves s (interrupt_begun k call s caller).state
+interrupt_begun_leaves k call s None = λ H n ms h. h
+interrupt_begun_leaves k call s (Some t) = λ H n ms h. without_leaves t H n ms s.chans s.waits h
+
+interrupt_call_leaves : (k : ℕ) (s : State) (o : Option Ioproc) → Leaves s (interrupt_call k s o).state
+interrupt_call_leaves k s (Some (Posted t call)) = λ H n ms h. without_leaves t H n ms s.chans s.waits h
+interrupt_call_leaves k s (Some (Begun caller call)) = interrupt_begun_leaves k call s caller
+interrupt_call_leaves k s (Some Idle) = λ H n ms h. h
+interrupt_call_leaves k s (Some Unmade) = λ H n ms h. h
+interrupt_call_leaves k s (Some Closed) = λ H n ms h. h
+interrupt_call_leaves k s None = λ H n ms h. h
+
 pub io_call_leaves : (setup : Setup) (t : ℕ) (r : IoReq) (s : State) → Leaves s (io_call setup t r s).state
 unfolding io_call
 io_call_leaves setup t (IoProc k) s = make_leaves k s (by_id s.ioprocs k)
 io_call_leaves setup t (IoRun k call) s = post_call_leaves t k call s (by_id s.ioprocs k)
+io_call_leaves setup t (IoInterrupt k) s = interrupt_call_leaves k s (by_id s.ioprocs k)
 io_call_leaves setup t (CloseIoProc k) s = close_ioproc_leaves k s (by_id s.ioprocs k)
 
 take_call_leaves : (k : ℕ) (s : State) (o : Option Ioproc) → Leaves s (take_call k s o).state

@@ -11,7 +11,7 @@ use Rattle.p9_word.specs.declared.request.IoReq.{IoReq}
 use Rattle.p9_word.specs.declared.request.LockReq.{LockReq}
 use Rattle.p9_word.specs.declared.request.SignalReq.{SignalReq}
 use Rattle.p9_word.specs.declared.request.LockReq.TheVariants.{RSleep}
-use Rattle.p9_word.specs.declared.request.IoReq.TheVariants.{IoProc, IoRun, CloseIoProc}
+use Rattle.p9_word.specs.declared.request.IoReq.TheVariants.{IoProc, IoRun, IoInterrupt, CloseIoProc}
 use Rattle.p9_word.specs.declared.io_call.IoCall.{IoCall}
 use Rattle.p9_word.specs.declared.setup.Setup.{Setup}
 use Rattle.p9_word.specs.declared.trail.Entry.{Entry}
@@ -41,7 +41,7 @@ use Rattle.p9_manual.specs.Chans.{empty_channel, on_channel}
 use Rattle.p9_manual.specs.LockCalls.{all_granted, with_grant, with_holds}
 use Rattle.p9_manual.specs.LockWaits.{lock_waiters}
 use Rattle.p9_manual.specs.Locks.{lock_call}
-use Rattle.p9_manual.specs.Ioprocs.{with_ioproc, make, post_call, close_ioproc, io_call}
+use Rattle.p9_manual.specs.Ioprocs.{with_ioproc, make, post_call, interrupt_begun, interrupt_call, close_ioproc, io_call}
 use Rattle.p9_manual.specs.Unlocks.{Grant, release}
 use Rattle.p9_laws.proofs.AskedLocks.{DoesToLocks, Says, Counts, Gets, GetsInTurn, WaitsFor, GivesUp, Sleeps, Meets, MovesFirst, MovesAll, lock_call_does}
 use Rattle.p9_laws.proofs.LocksLeave.{first_moved_holds, all_moved_holds}
@@ -216,10 +216,32 @@ close_ioproc_stays t k s (Some (Begun u call)) = bad_stays t s
 close_ioproc_stays t k s (Some ClosedIoproc) = bad_stays t s
 close_ioproc_stays t k s None = bad_stays t s
 
+-- the thread that waits for the call of an ioproc is interrupted
+called_stays : (t k : ℕ) (io : Ioproc) (u : ℕ) (s : State) → Stays t s (now (Number 1) (wake u Interrupted (with_ioproc k io s)))
+called_stays t k io u s =
+    record {
+      silent = refl;
+      grows = grows_same [] s.chans;
+      agrees = λ H ms rs last e a. woken_agrees H ms rs last u Interrupted (with_ioproc k io s) (record { nothing = λ v. refl; unsent = refl }) a;
+    }
+
+interrupt_begun_stays : (t k : ℕ) (call : IoCall) (s : State) (caller : Option ℕ) → Stays t s (interrupt_begun k call s caller)
+interrupt_begun_stays t k call s None = now_stays t s (Number 0)
+interrupt_begun_stays t k call s (Some u) = called_stays t k (Begun None call) u s
+
+interrupt_call_stays : (t k : ℕ) (s : State) (o : Option Ioproc) → Stays t s (interrupt_call k s o)
+interrupt_call_stays t k s (Some (Posted u call)) = called_stays t k Idle u s
+interrupt_call_stays t k s (Some (Begun caller call)) = interrupt_begun_stays t k call s caller
+interrupt_call_stays t k s (Some Idle) = now_stays t s (Number 0)
+interrupt_call_stays t k s (Some Unmade) = bad_stays t s
+interrupt_call_stays t k s (Some ClosedIoproc) = bad_stays t s
+interrupt_call_stays t k s None = bad_stays t s
+
 pub io_call_stays : (setup : Setup) (t : ℕ) (r : IoReq) (s : State) → 1 ≤ t → Stays t s (io_call setup t r s)
 unfolding io_call
 io_call_stays setup t (IoProc k) s made = make_stays t k s (by_id s.ioprocs k)
 io_call_stays setup t (IoRun k call) s made = post_call_stays t k call s (by_id s.ioprocs k) made
+io_call_stays setup t (IoInterrupt k) s made = interrupt_call_stays t k s (by_id s.ioprocs k)
 io_call_stays setup t (CloseIoProc k) s made = close_ioproc_stays t k s (by_id s.ioprocs k)
 
 failed_quiet : (single : Bool) (i : ℕ) → IsQuiet (Ready (failed_answer single i))

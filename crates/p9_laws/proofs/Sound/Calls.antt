@@ -104,6 +104,9 @@ pub pushed_match : (ioprocs : List Ioproc) (waits : List Waiter) (w : Waiter) �
 pushed_match ioprocs waits w none match' =
     same_calls ioprocs waits (waits ++ w ∷ []) (λ k. calls_push k waits w ∙ ap (λ cs. waiting_calls k waits ++ cs) (none k) ∙ append-nil (waiting_calls k waits)) match'
 
+bounded : (a b c d : ℕ) → a ≡ b → b ≤ c → d ≡ c → d ≤ 4294967295 → a ≤ 4294967295
+bounded a b c d e f g h = omega arith
+
 -- an ioproc that has the same call for the same thread as before
 pub kept_match : (ioprocs : List Ioproc) (waits : List Waiter) (k : ℕ) (old io : Ioproc) → by_id ioprocs k ≡ Some old → call_of (Some io) ≡ call_of (Some old) → message_at (Some io) ≤ message_at (Some old) → CallsMatch ioprocs waits → CallsMatch (changed (λ _. io) ioprocs (k - 1)) waits
 kept_match ioprocs waits k old io e same short match' =
@@ -121,9 +124,6 @@ kept_match ioprocs waits k old io e same short match' =
         | inr ne ↦ subst (λ (n : ℕ). n ≤ 4294967295) (sym (ap message_at (by_id-changed_other (λ _. io) ioprocs k j old e ne))) (match'.messages j)
       ];
     }
-  where
-    bounded : (a b c d : ℕ) → a ≡ b → b ≤ c → d ≡ c → d ≤ 4294967295 → a ≤ 4294967295
-    bounded a b c d e f g h = omega arith
 
 -- a call is posted at an idle ioproc, and its thread waits in it
 pub posted_match : (ioprocs : List Ioproc) (waits : List Waiter) (t k at : ℕ) (call : IoCall) → by_id ioprocs k ≡ Some Idle → message_length call ≤ 4294967295 → CallsMatch ioprocs waits → CallsMatch (changed (λ _. Posted t call) ioprocs (k - 1)) (waits ++ record { tid = t; request = IoRequest (IoRun k call); at = at } ∷ [])
@@ -158,9 +158,9 @@ posted_match ioprocs waits t k at call e short match' =
     posted_elsewhere j ne =
         ap (λ cs. waiting_calls j waits ++ cs) (later (eqb k j) (eqb_other k j ne)) ∙ append-nil (waiting_calls j waits) ∙ match'.calls j ∙ sym (ap call_of (by_id-changed_other (λ _. Posted t call) ioprocs k j Idle e ne))
 
--- the thread of a begun call waits
-pub begun_waits : (threads : List Thread) (line : List ℕ) (waits : List Waiter) (ioprocs : List Ioproc) (t k : ℕ) (call : IoCall) → by_id ioprocs k ≡ Some (Begun (Some t) call) → StandOnce threads line waits → CallsMatch ioprocs waits → (place_of threads t ≡ Waiting) × (times (λ w. eqb w.tid t) waits ≡ 1)
-begun_waits threads line waits ioprocs t k call e stand match' = waits_once threads line waits t stand (in_call k call (match'.calls k ∙ ap call_of e))
+-- the thread that an ioproc has a call for waits
+pub called_waits : (threads : List Thread) (line : List ℕ) (waits : List Waiter) (ioprocs : List Ioproc) (t k : ℕ) (call : IoCall) → call_of (by_id ioprocs k) ≡ (t, call) ∷ [] → StandOnce threads line waits → CallsMatch ioprocs waits → (place_of threads t ≡ Waiting) × (times (λ w. eqb w.tid t) waits ≡ 1)
+called_waits threads line waits ioprocs t k call e stand match' = waits_once threads line waits t stand (in_call k call (match'.calls k ∙ e))
   where
     in_call : (k : ℕ) (call : IoCall) → waiting_calls k waits ≡ (t, call) ∷ [] → 1 ≤ times (λ w. eqb w.tid t) waits
     in_call k call h =
@@ -173,42 +173,46 @@ begun_waits threads line waits ioprocs t k call e stand match' = waits_once thre
 for_one : (t : ℕ) (call : IoCall) → times (is_for t) ((t, call) ∷ []) ≡ 1
 for_one t call = rw (eqb_same t) refl
 
--- the begun call of t is done: its wait is taken out, and the ioproc is idle
-pub done_match : (threads : List Thread) (line : List ℕ) (waits : List Waiter) (ioprocs : List Ioproc) (t k : ℕ) (call : IoCall) → by_id ioprocs k ≡ Some (Begun (Some t) call) → StandOnce threads line waits → CallsMatch ioprocs waits → CallsMatch (changed (λ _. Idle) ioprocs (k - 1)) (waits_without t waits)
-done_match threads line waits ioprocs t k call e stand match' =
+-- an ioproc that had a call for t has none for anybody: the wait of t is taken out
+pub freed_match : (threads : List Thread) (line : List ℕ) (waits : List Waiter) (ioprocs : List Ioproc) (t k : ℕ) (call : IoCall) (old io : Ioproc) → by_id ioprocs k ≡ Some old → call_of (Some old) ≡ (t, call) ∷ [] → call_of (Some io) ≡ [] → message_at (Some io) ≤ message_at (Some old) → StandOnce threads line waits → CallsMatch ioprocs waits → CallsMatch (changed (λ _. io) ioprocs (k - 1)) (waits_without t waits)
+freed_match threads line waits ioprocs t k call old io e had none short stand match' =
     record {
       calls = λ j. calls_without j t waits ∙ elim (cases_eq j k) [
-        | inl here ↦ done_here j here
-        | inr ne ↦ done_elsewhere j ne
+        | inl here ↦ freed_here j here
+        | inr ne ↦ freed_elsewhere j ne
       ];
       messages = λ j. elim (cases_eq j k) [
-        | inl here ↦ subst (λ (n : ℕ). n ≤ 4294967295) (sym (ap message_at (at_k j here))) (omega arith)
-        | inr ne ↦ subst (λ (n : ℕ). n ≤ 4294967295) (sym (ap message_at (by_id-changed_other (λ _. Idle) ioprocs k j (Begun (Some t) call) e ne))) (match'.messages j)
+        | inl here ↦
+            let a = ap message_at (at_k j here) in
+            let b = ap message_at e in
+            let m = match'.messages k in
+            bounded _ _ _ _ a short b m
+        | inr ne ↦ subst (λ (n : ℕ). n ≤ 4294967295) (sym (ap message_at (by_id-changed_other (λ _. io) ioprocs k j old e ne))) (match'.messages j)
       ];
     }
   where
-    at_k : (j : ℕ) → j ≡ k → by_id (changed (λ _. Idle) ioprocs (k - 1)) j ≡ Some Idle
-    at_k j here = ap (λ x. by_id (changed (λ _. Idle) ioprocs (k - 1)) x) here ∙ by_id-changed_same (λ _. Idle) ioprocs k (Begun (Some t) call) e
+    at_k : (j : ℕ) → j ≡ k → by_id (changed (λ _. io) ioprocs (k - 1)) j ≡ Some io
+    at_k j here = ap (λ x. by_id (changed (λ _. io) ioprocs (k - 1)) x) here ∙ by_id-changed_same (λ _. io) ioprocs k old e
 
     its_call : waiting_calls k waits ≡ (t, call) ∷ []
-    its_call = match'.calls k ∙ ap call_of e
+    its_call = match'.calls k ∙ ap call_of e ∙ had
 
     gone : filter (λ c. not (is_for t c)) ((t, call) ∷ []) ≡ []
     gone = rw (eqb_same t) refl
 
-    done_here : (j : ℕ) → j ≡ k → filter (λ c. not (is_for t c)) (waiting_calls j waits) ≡ call_of (by_id (changed (λ _. Idle) ioprocs (k - 1)) j)
-    done_here j here = ap (λ x. filter (λ c. not (is_for t c)) (waiting_calls x waits)) here ∙ ap (filter (λ c. not (is_for t c))) its_call ∙ gone ∙ sym (ap call_of (at_k j here))
+    freed_here : (j : ℕ) → j ≡ k → filter (λ c. not (is_for t c)) (waiting_calls j waits) ≡ call_of (by_id (changed (λ _. io) ioprocs (k - 1)) j)
+    freed_here j here = ap (λ x. filter (λ c. not (is_for t c)) (waiting_calls x waits)) here ∙ ap (filter (λ c. not (is_for t c))) its_call ∙ gone ∙ sym none ∙ sym (ap call_of (at_k j here))
 
     none_else : (j : ℕ) → j ≢ k → times (is_for t) (waiting_calls j waits) ≡ 0
     none_else j ne =
         let sum = calls_apart j k t ne waits in
         let one = ap (times (is_for t)) its_call ∙ for_one t call in
-        let once = (begun_waits threads line waits ioprocs t k call e stand match').1 in
+        let once = (called_waits threads line waits ioprocs t k call (ap call_of e ∙ had) stand match').1 in
         omega (arith, sum, one, once)
 
-    done_elsewhere : (j : ℕ) → j ≢ k → filter (λ c. not (is_for t c)) (waiting_calls j waits) ≡ call_of (by_id (changed (λ _. Idle) ioprocs (k - 1)) j)
-    done_elsewhere j ne =
-        filter_none (is_for t) (waiting_calls j waits) (none_else j ne) ∙ match'.calls j ∙ sym (ap call_of (by_id-changed_other (λ _. Idle) ioprocs k j (Begun (Some t) call) e ne))
+    freed_elsewhere : (j : ℕ) → j ≢ k → filter (λ c. not (is_for t c)) (waiting_calls j waits) ≡ call_of (by_id (changed (λ _. io) ioprocs (k - 1)) j)
+    freed_elsewhere j ne =
+        filter_none (is_for t) (waiting_calls j waits) (none_else j ne) ∙ match'.calls j ∙ sym (ap call_of (by_id-changed_other (λ _. io) ioprocs k j old e ne))
 
 posted_let_go : (ends : Gone) (u : ℕ) (call : IoCall) (b : Bool) → ends u ≡ b → call_of (Some (cond b Idle (Posted u call))) ≡ filter (is_not_for ends) ((u, call) ∷ [])
 posted_let_go ends u call true h = rw h refl
@@ -249,8 +253,5 @@ ended_match ends ioprocs waits match' =
           let a = ap message_at (by_id-map (let_go ends) ioprocs k) in
           let b = message_let_go ends (by_id ioprocs k) in
           let m = match'.messages k in
-          bounded _ _ _ a b m;
+          bounded _ _ _ _ a b refl m;
     }
-  where
-    bounded : (a b c : ℕ) → a ≡ b → b ≤ c → c ≤ 4294967295 → a ≤ 4294967295
-    bounded a b c e f g = omega arith

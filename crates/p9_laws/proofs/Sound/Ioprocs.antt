@@ -1,11 +1,12 @@
 -- The requests on ioprocs, and what ioprocs do, keep a sound state sound.
-use Rattle.std.proofs.Common.{◌≡◌, ◌≤◌, ℕ, ◌+◌, false, not, ◌||◌, ltb, Option, Some, None, refl, arith, rules, tests}
+use Rattle.std.proofs.Common.{◌≡◌, ◌≤◌, ℕ, ◌+◌, ◌-◌, false, not, ◌||◌, ltb, [], ◌∷◌, Option, Some, None, refl, ap, ◌∙◌, arith, rules, tests}
 use Rattle.std.specs.List.{list_any}
 use Rattle.p9_word.specs.declared.setup.Setup.{Setup}
-use Rattle.p9_word.specs.declared.answer.Answer.TheVariants.{Done, Number}
+use Rattle.p9_word.specs.declared.answer.Answer.{Answer}
+use Rattle.p9_word.specs.declared.answer.Answer.TheVariants.{Done, Interrupted, Number}
 use Rattle.p9_word.specs.declared.trail.Reply.TheVariants.{Over, Stray, Idle as IdleReply}
 use Rattle.p9_word.specs.declared.request.IoReq.{IoReq}
-use Rattle.p9_word.specs.declared.request.IoReq.TheVariants.{IoProc, IoRun, CloseIoProc}
+use Rattle.p9_word.specs.declared.request.IoReq.TheVariants.{IoProc, IoRun, IoInterrupt, CloseIoProc}
 use Rattle.p9_word.specs.declared.io_call.IoCall.{IoCall}
 use Rattle.p9_word.specs.declared.io_call.Effect.{Effect}
 use Rattle.p9_word.specs.declared.request.Request.TheVariants.{Io as IoRequest}
@@ -13,18 +14,15 @@ use Rattle.p9_manual.specs.declared.state.Place.TheVariants.{Waiting}
 use Rattle.p9_manual.specs.declared.state.Ioproc.{Ioproc}
 use Rattle.p9_manual.specs.declared.state.Ioproc.TheVariants.{Unmade, Idle, Posted, Begun, Closed}
 use Rattle.p9_manual.specs.Effects.{fits, message_length}
-use Rattle.p9_manual.specs.LockWaits.{is_holding, lock_waiters}
 use Rattle.p9_manual.specs.Places.{lives}
-use Rattle.p9_manual.specs.State.{State, by_id, placed}
-use Rattle.p9_manual.specs.Ioprocs.{with_ioproc, make, post_call, close_ioproc, io_call, take_call, answered, did_call, io_event}
+use Rattle.p9_manual.specs.State.{State, by_id, changed, wake}
+use Rattle.p9_manual.specs.Ioprocs.{with_ioproc, make, post_call, interrupt_begun, interrupt_call, close_ioproc, io_call, take_call, answered, did_call, io_event}
 use Rattle.p9_manual.specs.Sound.{IsSound, call_of, message_at}
-use Rattle.p9_laws.proofs.Pending.{placed_lives, read_on}
-use Rattle.p9_laws.proofs.Sound.InTurn.{aside_in_turn, woken_in_turn}
-use Rattle.p9_laws.proofs.Sound.Order.{without_order}
-use Rattle.p9_laws.proofs.Sound.Stand.{answered_stands, members_placed}
-use Rattle.p9_laws.proofs.Sound.Waits.{calling_rightly, without_rightly}
-use Rattle.p9_laws.proofs.Sound.Calls.{kept_match, posted_match, begun_waits, done_match}
+use Rattle.p9_laws.proofs.Sound.InTurn.{aside_in_turn}
+use Rattle.p9_laws.proofs.Sound.Waits.{calling_rightly}
+use Rattle.p9_laws.proofs.Sound.Calls.{kept_match, posted_match, called_waits, freed_match}
 use Rattle.p9_laws.proofs.Sound.Outcomes.{IsFine, IsSafe, RunsIn, if_fine, if_safe, same_safe, now_fine, bad_fine, wait_of, waiting_fine, at_position, later_sound}
+use Rattle.p9_laws.proofs.Sound.Woken.{woken_sound_with}
 
 -- an ioproc that has the same call for the same thread as before
 with_ioproc_sound : (setup : Setup) (s : State) (k : ℕ) (old io : Ioproc) → by_id s.ioprocs k ≡ Some old → call_of (Some io) ≡ call_of (Some old) → message_at (Some io) ≤ message_at (Some old) → IsSound setup s → IsSound setup (with_ioproc k io s)
@@ -40,6 +38,12 @@ with_ioproc_sound setup s k old io e call short sound =
       calls = kept_match s.ioprocs s.waits k old io e call short sound.calls;
       notes = sound.notes;
     }
+
+-- an ioproc that had a call for a thread has none for anybody, and that thread is woken
+freed_sound : (setup : Setup) (s : State) (t k : ℕ) (call : IoCall) (old io : Ioproc) (a : Answer) → by_id s.ioprocs k ≡ Some old → call_of (Some old) ≡ (t, call) ∷ [] → call_of (Some io) ≡ [] → message_at (Some io) ≤ message_at (Some old) → IsSound setup s → IsSound setup (wake t a (with_ioproc k io s))
+freed_sound setup s t k call old io a e had none short sound =
+    let here = called_waits s.threads s.line s.waits s.ioprocs t k call (ap call_of e ∙ had) sound.stand sound.calls in
+    woken_sound_with setup s (changed (λ _. io) s.ioprocs (k - 1)) t a here.0 (freed_match s.threads s.line s.waits s.ioprocs t k call old io e had none short sound.stand sound.calls) sound
 
 make_fine : (setup : Setup) (k : ℕ) (s : State) (o : Option Ioproc) → by_id s.ioprocs k ≡ o → IsSound setup s → IsFine setup s.position (make k s o)
 make_fine setup k s (Some Unmade) e sound = now_fine setup _ (Number k) (with_ioproc_sound setup s k Unmade Idle e refl (omega arith) sound)
@@ -73,10 +77,27 @@ close_ioproc_fine setup k s (Some (Begun t call)) e sound = bad_fine setup s sou
 close_ioproc_fine setup k s (Some Closed) e sound = bad_fine setup s sound
 close_ioproc_fine setup k s None e sound = bad_fine setup s sound
 
+interrupt_begun_fine : (setup : Setup) (k : ℕ) (call : IoCall) (s : State) (o : Option ℕ) → by_id s.ioprocs k ≡ Some (Begun o call) → IsSound setup s → IsFine setup s.position (interrupt_begun k call s o)
+interrupt_begun_fine setup k call s None e sound = now_fine setup s (Number 0) sound
+interrupt_begun_fine setup k call s (Some t) e sound =
+    now_fine setup (wake t Interrupted (with_ioproc k (Begun None call) s)) (Number 1)
+    (freed_sound setup s t k call (Begun (Some t) call) (Begun None call) Interrupted e refl refl (omega arith) sound)
+
+interrupt_call_fine : (setup : Setup) (k : ℕ) (s : State) (o : Option Ioproc) → by_id s.ioprocs k ≡ o → IsSound setup s → IsFine setup s.position (interrupt_call k s o)
+interrupt_call_fine setup k s (Some (Posted t call)) e sound =
+    now_fine setup (wake t Interrupted (with_ioproc k Idle s)) (Number 1)
+    (freed_sound setup s t k call (Posted t call) Idle Interrupted e refl refl (omega arith) sound)
+interrupt_call_fine setup k s (Some (Begun t call)) e sound = interrupt_begun_fine setup k call s t e sound
+interrupt_call_fine setup k s (Some Idle) e sound = now_fine setup s (Number 0) sound
+interrupt_call_fine setup k s (Some Unmade) e sound = bad_fine setup s sound
+interrupt_call_fine setup k s (Some Closed) e sound = bad_fine setup s sound
+interrupt_call_fine setup k s None e sound = bad_fine setup s sound
+
 pub io_call_fine : (setup : Setup) (t : ℕ) (r : IoReq) (s : State) → IsSound setup s → RunsIn s t → IsFine setup s.position (io_call setup t r s)
 unfolding io_call
 io_call_fine setup t (IoProc k) s sound runs = make_fine setup k s _ refl sound
 io_call_fine setup t (IoRun k call) s sound runs = post_call_fine setup t k call s _ refl sound runs
+io_call_fine setup t (IoInterrupt k) s sound runs = interrupt_call_fine setup k s _ refl sound
 io_call_fine setup t (CloseIoProc k) s sound runs = close_ioproc_fine setup k s _ refl sound
 
 take_call_safe : (setup : Setup) (k : ℕ) (s : State) (o : Option Ioproc) → by_id s.ioprocs k ≡ o → IsSound setup s → IsSafe setup s (take_call k s o)
@@ -95,17 +116,7 @@ take_call_safe setup k s (Some Idle) e sound =
 answered_sound : (setup : Setup) (s : State) (k : ℕ) (o : Option ℕ) (call : IoCall) (effect : Effect) → by_id s.ioprocs k ≡ Some (Begun o call) → IsSound setup s → IsSound setup (at_position (s.position + 1) (answered o effect (with_ioproc k Idle s)))
 answered_sound setup s k None call effect e sound = later_sound setup (with_ioproc k Idle s) (with_ioproc_sound setup s k (Begun None call) Idle e refl (omega arith) sound)
 answered_sound setup s k (Some t) call effect e sound =
-    later_sound setup (answered (Some t) effect (with_ioproc k Idle s)) (record {
-      stand = answered_stands s.threads s.line s.waits t _ (is_holding t (lock_waiters s.waits)) sound.stand (begun_waits s.threads s.line s.waits s.ioprocs t k call e sound.stand sound.calls).0;
-      members = members_placed s.opened setup.programs t _ s.threads sound.members;
-      opened = sound.opened;
-      waits_right = without_rightly s.chans s.waits t sound.waits_right;
-      within = sound.within;
-      in_turn = woken_in_turn s.threads s.holds s.waits t _ sound.in_turn;
-      order = without_order s.position s.waits t sound.order;
-      calls = done_match s.threads s.line s.waits s.ioprocs t k call e sound.stand sound.calls;
-      notes = read_on s.procs s.procs s.threads (placed t _ s.threads) (λ p. refl) (placed_lives t _ refl s.threads) sound.notes;
-    })
+    later_sound setup (answered (Some t) effect (with_ioproc k Idle s)) (freed_sound setup s t k call (Begun (Some t) call) Idle _ e refl refl (omega arith) sound)
 
 did_call_safe : (setup : Setup) (k : ℕ) (effect : Effect) (s : State) (o : Option Ioproc) → by_id s.ioprocs k ≡ o → IsSound setup s → IsSafe setup s (did_call k effect s o)
 did_call_safe setup k effect s (Some (Begun t call)) e sound =

@@ -3,6 +3,7 @@ use Rattle.std.proofs.Common.{◌≡◌, ◌≤◌, ℕ, eqb, List, [], ◌∷�
 use Rattle.p9_word.specs.declared.setup.Setup.{Setup}
 use Rattle.p9_word.specs.declared.answer.Answer.{Answer}
 use Rattle.p9_word.specs.declared.io_call.IoCall.{IoCall}
+use Rattle.p9_manual.specs.declared.state.Ioproc.{Ioproc}
 use Rattle.p9_manual.specs.declared.state.Place.TheVariants.{Ready, Waiting}
 use Rattle.p9_manual.specs.declared.state.Thread.{Thread}
 use Rattle.p9_manual.specs.declared.state.Waiter.{Waiter}
@@ -31,9 +32,9 @@ one_call t call = rw (eqb_same t) refl
 abbrev pub with_ready : ℕ → Answer → State → State
 with_ready t a s = wake t a s
 
--- a thread that waits, in no call, is woken: by whatever its wait holds it stands first or last in the line
-pub woken_sound_apart : (setup : Setup) (s : State) (t : ℕ) (a : Answer) → place_of s.threads t ≡ Waiting → CallsMatch s.ioprocs (waits_without t s.waits) → IsSound setup s → IsSound setup (with_ready t a s)
-woken_sound_apart setup s t a here match' sound =
+-- a thread that waits is woken, beside other ioprocs: by whatever its wait holds it stands first or last in the line
+pub woken_sound_with : (setup : Setup) (s : State) (ios : List Ioproc) (t : ℕ) (a : Answer) → place_of s.threads t ≡ Waiting → CallsMatch ios (waits_without t s.waits) → IsSound setup s → IsSound setup (wake t a (record s { ioprocs = ios }))
+woken_sound_with setup s ios t a here match' sound =
     record {
       stand = answered_stands s.threads s.line s.waits t a (is_holding t (lock_waiters s.waits)) sound.stand here;
       members = members_placed s.opened setup.programs t (Ready a) s.threads sound.members;
@@ -45,6 +46,10 @@ woken_sound_apart setup s t a here match' sound =
       calls = match';
       notes = read_on s.procs s.procs s.threads (placed t (Ready a) s.threads) (λ p. refl) (placed_lives t (Ready a) refl s.threads) sound.notes;
     }
+
+-- and where it waits in no call, beside the same ones
+pub woken_sound_apart : (setup : Setup) (s : State) (t : ℕ) (a : Answer) → place_of s.threads t ≡ Waiting → CallsMatch s.ioprocs (waits_without t s.waits) → IsSound setup s → IsSound setup (with_ready t a s)
+woken_sound_apart setup s t a here match' sound = woken_sound_with setup s s.ioprocs t a here match' sound
 
 -- one that waits in an alt is woken
 pub woken_sound : (setup : Setup) (s : State) (t : ℕ) (a : Answer) → WaitsInAlt t s.waits → IsSound setup s → IsSound setup (with_ready t a s)
