@@ -1,14 +1,15 @@
 -- What a change at one desk, or at all, does to what the desks show.
-use Rattle.std.proofs.Common.{◌≡◌, ℕ, zero, suc, ◌+◌, ◌-◌, ◌<◌, ◌≤◌, true, false, List, [], ◌∷◌, ◌++◌, length, map, replicate, add-one, set, get_or, Option, Some, None, IsSome, refl, sym, ap, ◌∙◌, arith, rules, tests}
+use Rattle.std.proofs.Common.{◌≡◌, ℕ, zero, suc, ◌+◌, ◌-◌, ◌<◌, ◌≤◌, Bool, true, false, List, [], ◌∷◌, ◌++◌, length, map, replicate, add-one, set, get_or, Option, Some, None, IsSome, refl, sym, ap, ◌∙◌, arith, rules, tests}
 use Rattle.std.specs.Prelude.{slice_get, option_map, nat_lt, OnSome, IfNone, OnOk, OnErr, Result, Ok, Err}
 use Rattle.p9_word.specs.declared.io_call.IoCall.{IoCall}
 use Rattle.p9_manual.specs.declared.state.Ioproc.{Ioproc}
 use Rattle.p9_manual.specs.declared.state.Ioproc.TheVariants.{Unmade, Idle, Posted, Begun, Closed}
 use Rattle.p9_manual.specs.State.{by_id, changed}
 use Rattle.p9_io.specs.declared.desk.Desk.{Desk}
-use Rattle.p9_io.specs.Calls.{begun, begun_weight, begun_count, posted_call}
-use Rattle.p9_io.specs.Desks.{Desks, with_ioproc, posted, prepared, with_begun, lent}
+use Rattle.p9_io.specs.Calls.{begun_call, begun_weight, begun_count, posted_call}
+use Rattle.p9_io.specs.Desks.{Desks, with_ioproc, posted, prepared, with_begun, interrupted, lent}
 use Rattle.p9_io.specs.Kept.{ioprocs_of, rooms_of, prepared_of, shown_of}
+use Rattle.p9_io.specs.Room.{begun, without_caller}
 use Rattle.p9_io.proofs.Counts.{count_changed, count_fewer}
 
 -- an item that was read stands at its index
@@ -121,14 +122,23 @@ on_err (Err e) f h = f h
 pub record Begins (k : ℕ) (old new : List Desk) : Type 0 where
   pub shown : shown_of new ≡ with_begun k (by_id (ioprocs_of old) k) (shown_of old)
   pub calls : begun_count (ioprocs_of new) ≡ begun_count (ioprocs_of old) + 1
-  pub here : slice_get (rooms_of new) (k - 1) ≡ Some true
+  pub here : slice_get (prepared_of old) (k - 1) ≡ Some true → slice_get (rooms_of new) (k - 1) ≡ Some true
   pub few : begun_count (ioprocs_of old) < length old
 
 length_ioprocs : (xs : List Desk) → length (ioprocs_of xs) ≡ length xs
 length_ioprocs [] = refl
 length_ioprocs (x ∷ xs) = let h = length_ioprocs xs in omega arith
 
-begins_by : (k : ℕ) (o : Ioproc) (xs : List Desk) (y d : Desk) → d.ioproc ≡ o → IsSome (posted_call (Some o)) → slice_get xs (k - 1) ≡ Some d → by_id (ioprocs_of xs) k ≡ Some o → y.ioproc ≡ begun o → y.is_here ≡ true → y.is_prepared ≡ false → Begins k xs (set xs (k - 1) y)
+-- what is read at an index that is there
+pub get_at : (bs : List Bool) (i : ℕ) (b : Bool) → slice_get bs i ≡ Some b → get_or bs i false ≡ b
+get_at [] i b e = absurd (cc e)
+get_at (x ∷ bs) zero b e = some_is x b e
+  where
+    some_is : (x y : Bool) → Some x ≡ Some y → x ≡ y
+    some_is x y e = cc
+get_at (x ∷ bs) (suc i) b e = get_at bs i b e
+
+begins_by : (k : ℕ) (o : Ioproc) (xs : List Desk) (y d : Desk) → d.ioproc ≡ o → IsSome (posted_call (Some o)) → slice_get xs (k - 1) ≡ Some d → by_id (ioprocs_of xs) k ≡ Some o → y.ioproc ≡ begun o → y.is_here ≡ d.is_prepared → y.is_prepared ≡ d.is_prepared → Begins k xs (set xs (k - 1) y)
 begins_by k Unmade xs y d o h at found a b c = absurd (cc h)
 begins_by k Idle xs y d o h at found a b c = absurd (cc h)
 begins_by k (Begun t call) xs y d o h at found a b c = absurd (cc h)
@@ -138,10 +148,12 @@ begins_by k (Posted t call) xs y d o h at found a b c =
     let n = count_set (k - 1) (Begun (Some t) call) xs y d at a in
     let fewer = count_fewer (ioprocs_of xs) (k - 1) d.ioproc (slice_get-map (λ (x : Desk). x.ioproc) xs (k - 1) d at) none in
     let len = length_ioprocs xs in
+    let ready = slice_get-map (λ (x : Desk). x.is_prepared) xs (k - 1) d at in
+    let here : y.is_here ≡ get_or (prepared_of xs) (k - 1) false = b ∙ sym (get_at (prepared_of xs) (k - 1) d.is_prepared ready) in
     record {
-      shown = rw found (shown_is _ _ (map_set (λ (x : Desk). x.ioproc) xs (k - 1) y d (Begun (Some t) call) at a) (map_set (λ (x : Desk). x.is_here) xs (k - 1) y d true at b) (map_set (λ (x : Desk). x.is_prepared) xs (k - 1) y d false at c));
+      shown = rw found (shown_is _ _ (map_set (λ (x : Desk). x.ioproc) xs (k - 1) y d (Begun (Some t) call) at a) (map_set (λ (x : Desk). x.is_here) xs (k - 1) y d (get_or (prepared_of xs) (k - 1) false) at here) (map_set_same (λ (x : Desk). x.is_prepared) xs (k - 1) y d at c));
       calls = omega arith;
-      here = map_get_set (λ (x : Desk). x.is_here) xs (k - 1) y d true at b;
+      here = λ e. map_get_set (λ (x : Desk). x.is_here) xs (k - 1) y d true at (here ∙ get_at (prepared_of xs) (k - 1) true e);
       few = omega arith;
     }
 
@@ -149,10 +161,53 @@ posted_is_there : (o : Option Ioproc) → IsSome (posted_call o) → IsSome o
 posted_is_there None h = h
 posted_is_there (Some io) h = refl
 
-pub begins : (k : ℕ) (xs : List Desk) (y d : Desk) → IsSome (posted_call (by_id (ioprocs_of xs) k)) → slice_get xs (k - 1) ≡ Some d → y.ioproc ≡ begun d.ioproc → y.is_here ≡ true → y.is_prepared ≡ false → Begins k xs (set xs (k - 1) y)
+pub begins : (k : ℕ) (xs : List Desk) (y d : Desk) → IsSome (posted_call (by_id (ioprocs_of xs) k)) → slice_get xs (k - 1) ≡ Some d → y.ioproc ≡ begun d.ioproc → y.is_here ≡ d.is_prepared → y.is_prepared ≡ d.is_prepared → Begins k xs (set xs (k - 1) y)
 begins k xs y d h at a b c =
     let found = by_id_at (ioprocs_of xs) k d.ioproc (posted_is_there _ h) (slice_get-map (λ (x : Desk). x.ioproc) xs (k - 1) d at) in
     begins_by k d.ioproc xs y d refl (rw found at h) at found a b c
+
+-- the ioproc at a desk that is there
+pub found_at : (k : ℕ) (xs : List Desk) (d : Desk) → IsSome (by_id (ioprocs_of xs) k) → slice_get xs (k - 1) ≡ Some d → by_id (ioprocs_of xs) k ≡ Some d.ioproc
+found_at k xs d h at = by_id_at (ioprocs_of xs) k d.ioproc h (slice_get-map (λ (x : Desk). x.ioproc) xs (k - 1) d at)
+
+-- the thread that waited at an ioproc is let go
+pub record LetsGo (k : ℕ) (old new : List Desk) : Type 0 where
+  pub shown : shown_of new ≡ interrupted k (by_id (ioprocs_of old) k) (shown_of old)
+  pub calls : begun_count (ioprocs_of new) ≡ begun_count (ioprocs_of old)
+
+lets_go_by : (k : ℕ) (o : Ioproc) (xs : List Desk) (y d : Desk) → d.ioproc ≡ o → slice_get xs (k - 1) ≡ Some d → by_id (ioprocs_of xs) k ≡ Some o → y.ioproc ≡ without_caller o → y.is_here ≡ d.is_here → y.is_prepared ≡ d.is_prepared → LetsGo k xs (set xs (k - 1) y)
+lets_go_by k Unmade xs y d o at found a b c = record { shown = rw found (shown_same (k - 1) xs y d at (a ∙ sym o) b c); calls = count_resting k Unmade Unmade xs y d found refl refl at a }
+lets_go_by k Idle xs y d o at found a b c = record { shown = rw found (shown_same (k - 1) xs y d at (a ∙ sym o) b c); calls = count_resting k Idle Idle xs y d found refl refl at a }
+lets_go_by k Closed xs y d o at found a b c = record { shown = rw found (shown_same (k - 1) xs y d at (a ∙ sym o) b c); calls = count_resting k Closed Closed xs y d found refl refl at a }
+lets_go_by k (Posted t call) xs y d o at found a b c = record { shown = rw found (shown_put k Idle xs y d at a b c); calls = count_resting k (Posted t call) Idle xs y d found refl refl at a }
+lets_go_by k (Begun None call) xs y d o at found a b c =
+    let weight : begun_weight d.ioproc ≡ 1 = ap begun_weight o in
+    let n = count_set (k - 1) (Begun None call) xs y d at a in
+    record { shown = rw found (shown_same (k - 1) xs y d at (a ∙ sym o) b c); calls = omega arith }
+lets_go_by k (Begun (Some t) call) xs y d o at found a b c =
+    let weight : begun_weight d.ioproc ≡ 1 = ap begun_weight o in
+    let n = count_set (k - 1) (Begun None call) xs y d at a in
+    record { shown = rw found (shown_put k (Begun None call) xs y d at a b c); calls = omega arith }
+
+pub lets_go : (k : ℕ) (xs : List Desk) (y d : Desk) → IsSome (by_id (ioprocs_of xs) k) → slice_get xs (k - 1) ≡ Some d → y.ioproc ≡ without_caller d.ioproc → y.is_here ≡ d.is_here → y.is_prepared ≡ d.is_prepared → LetsGo k xs (set xs (k - 1) y)
+lets_go k xs y d h at a b c = lets_go_by k d.ioproc xs y d refl at (found_at k xs d h at) a b c
+
+-- where a call is begun the ioproc is there, and counts
+begun_is_there : (o : Option Ioproc) → IsSome (begun_call o) → IsSome o
+begun_is_there None h = h
+begun_is_there (Some io) h = refl
+
+begun_weighs : (io : Ioproc) → IsSome (begun_call (Some io)) → begun_weight io ≡ 1
+begun_weighs Unmade h = absurd (cc h)
+begun_weighs Idle h = absurd (cc h)
+begun_weighs (Posted t call) h = absurd (cc h)
+begun_weighs (Begun t call) h = refl
+begun_weighs Closed h = absurd (cc h)
+
+pub weighs_one : (k : ℕ) (xs : List Desk) (d : Desk) → IsSome (begun_call (by_id (ioprocs_of xs) k)) → slice_get xs (k - 1) ≡ Some d → begun_weight d.ioproc ≡ 1
+weighs_one k xs d h at =
+    let found = found_at k xs d (begun_is_there _ h) at in
+    begun_weighs d.ioproc (rw found at h)
 
 -- g of each item from index i on
 abbrev pub from : {A : Type 0} → (A → A) → ℕ → List A → List A

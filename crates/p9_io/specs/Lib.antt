@@ -1,4 +1,5 @@
 pub mod Calls
 pub mod Desks
 pub mod Kept
+pub mod Room
 pub mod Stands

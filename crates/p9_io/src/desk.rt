@@ -1,11 +1,12 @@
-ghost use Rattle.std.specs.Prelude.{◌≡◌, ◌≤◌, [], Some, IsSome, IfNone, OnSome, OnOk, OnErr, true, false};
+ghost use Rattle.std.specs.Prelude.{◌≡◌, ◌≤◌, [], Some, IsSome, IfNone, IfSome, OnSome, OnOk, OnErr, true, false};
 ghost use Rattle.p9_manual.specs.Ends.{let_go};
 ghost use Rattle.p9_manual.specs.Effects.{message_length};
 ghost use Rattle.p9_manual.specs.declared.state.Ioproc.TheVariants.{Idle, Unmade, Posted};
-ghost use Rattle.p9_io.specs.Calls.{begun, begun_call, begun_room, call_length, finish_of, posted_call, posted_room, where_so};
+ghost use Rattle.p9_io.specs.Calls.{begun_call, finish_of, posted_call};
+ghost use Rattle.p9_io.specs.Room.{begun, begun_room, call_length, call_room, posted_room, where_so, without_caller};
 
 use crate::effects::{Finished, answer_of, fits};
-use crate::ioprocs::{begun, let_go, room_needed};
+use crate::ioprocs::{begun, let_go, room_needed, without_caller};
 use p9_manual::{Gone, Ioproc};
 use p9_word::{Effect, IoCall, NoMemory, Room, Tid};
 use std::alloc::Global;
@@ -16,7 +17,7 @@ use std::mem;
 pub(crate) struct Desk {
     /// The buffer of the begun call was not handed out yet.
     pub(crate) is_here: bool,
-    /// Both buffers have room for the posted call.
+    /// There is memory for the call: the second buffer has room for it, and the first one too while it is posted.
     pub(crate) is_prepared: bool,
     /// The ioproc.
     pub(crate) ioproc: Ioproc,
@@ -27,9 +28,8 @@ pub(crate) struct Desk {
     ghost empty: { buffer.items ≡ [] },
     ghost second_empty: { second.items ≡ [] },
     ghost here: { where_so is_here (begun_room ioproc) ≤ buffer.spare },
-    ghost fits: { begun_room ioproc ≤ second.spare },
     ghost ready: { where_so is_prepared (posted_room ioproc) ≤ buffer.spare },
-    ghost second_ready: { where_so is_prepared (posted_room ioproc) ≤ second.spare },
+    ghost second_ready: { where_so is_prepared (call_room ioproc) ≤ second.spare },
     ghost short: { call_length ioproc ≤ 4294967295 },
 }
 
@@ -53,6 +53,7 @@ impl Desk {
     pub(crate) fn rest(&mut self, ioproc: Ioproc)
         requires begun { begun_room ioproc ≡ 0 }
         requires posted { posted_room ioproc ≡ 0 }
+        requires room { call_room ioproc ≡ 0 }
         requires short { call_length ioproc ≡ 0 }
         ensures ioproc { self.new.ioproc ≡ ioproc }
         ensures here { self.new.is_here ≡ self.old.is_here }
@@ -72,7 +73,7 @@ impl Desk {
         self.is_prepared = false;
     }
 
-    /// Takes the memory of the posted call, if there is one.
+    /// Takes the memory of the call, if there is one.
     pub(crate) fn prepare(&mut self) -> Result<(), NoMemory>
         ensures ioproc { self.new.ioproc ≡ self.old.ioproc }
         ensures here { self.new.is_here ≡ self.old.is_here }
@@ -86,21 +87,29 @@ impl Desk {
         Ok(())
     }
 
-    /// Begins the posted call, with the buffers that have room for its bytes.
-    pub(crate) fn begin(&mut self)
-        requires posted { IsSome (posted_call (Some self.old.ioproc)) }
-        requires prepared { self.old.is_prepared ≡ true }
+    /// Begins the posted call. Its buffer is here where there was memory for it.
+    pub(crate) fn take(&mut self)
+        requires { IsSome (posted_call (Some self.old.ioproc)) }
         ensures ioproc { self.new.ioproc ≡ begun self.old.ioproc }
-        ensures here { self.new.is_here ≡ true }
-        ensures prepared { self.new.is_prepared ≡ false }
+        ensures here { self.new.is_here ≡ self.old.is_prepared }
+        ensures prepared { self.new.is_prepared ≡ self.old.is_prepared }
     {
         self.ioproc = begun(mem::replace(&mut self.ioproc, Ioproc::Idle));
-        self.is_here = true;
-        self.is_prepared = false;
+        self.is_here = self.is_prepared;
+    }
+
+    /// Lets the thread that waits here go, if one does.
+    pub(crate) fn interrupt(&mut self)
+        ensures ioproc { self.new.ioproc ≡ without_caller self.old.ioproc }
+        ensures here { self.new.is_here ≡ self.old.is_here }
+        ensures prepared { self.new.is_prepared ≡ self.old.is_prepared }
+    {
+        self.ioproc = without_caller(mem::replace(&mut self.ioproc, Ioproc::Idle));
     }
 
     /// Ends the begun call with what it came to, if that fits.
     pub(crate) fn finish(&mut self, effect: &Effect, alloc: Global) -> Option<Finished>
+        requires { IfSome (begun_call (Some self.old.ioproc)) (λ call. self.old.is_prepared ≡ true) }
         ensures finished { result ≡ finish_of effect.now (Some self.old.ioproc) }
         ensures some { OnSome result (self.new.ioproc ≡ Idle) }
         ensures none { IfNone result (self.new.ioproc ≡ self.old.ioproc) }

@@ -6,13 +6,13 @@ ghost use Rattle.p9_manual.specs.Places.{has_call};
 ghost use Rattle.p9_manual.specs.State.{by_id};
 ghost use Rattle.p9_manual.specs.Effects.{room_for, message_length};
 ghost use Rattle.p9_manual.specs.declared.state.Ioproc.TheVariants.{Idle, Closed, Unmade};
-ghost use Rattle.p9_io.specs.Calls.{begun_call, begun_count, finish_of, posted_call};
-ghost use Rattle.p9_io.specs.Desks.{begin_desks, with_ioproc, posted, prepared, with_begun, lent, without};
+ghost use Rattle.p9_io.specs.Calls.{begun_call, begun_count, finish_of, posted_call, waits_at};
+ghost use Rattle.p9_io.specs.Desks.{begin_desks, with_ioproc, posted, prepared, with_begun, interrupted, lent, without};
 ghost use Rattle.p9_io.specs.Kept.{ioprocs_of, rooms_of, prepared_of, shown_of};
 
 use crate::desk::Desk;
 use crate::effects::Finished;
-use crate::ioprocs::has_call;
+use crate::ioprocs::{has_call, waits_at};
 use p9_manual::{Gone, Ioproc};
 use p9_word::{Effect, IoCall, NoMemory, Room, Tid};
 use std::alloc::Global;
@@ -86,7 +86,7 @@ pub(crate) fn post(desks: &mut Vec<Desk>, k: u32, t: Tid, call: IoCall)
     desk.post(t, call);
 }
 
-/// Takes the memory of the call that is posted at an ioproc, if there is one.
+/// Takes the memory of the call at an ioproc, if there is one.
 pub(crate) fn prepare(desks: &mut Vec<Desk>, k: u32) -> Result<(), NoMemory>
     requires { IsSome (by_id (ioprocs_of desks.old.items) k) }
     ensures ok { OnOk result (shown_of desks.new.items ≡ prepared k (shown_of desks.old.items)) }
@@ -99,18 +99,40 @@ pub(crate) fn prepare(desks: &mut Vec<Desk>, k: u32) -> Result<(), NoMemory>
     desk.prepare()
 }
 
-/// Begins the call that is posted at an ioproc, for which there is memory.
-pub(crate) fn begin(desks: &mut Vec<Desk>, k: u32)
-    requires posted { IsSome (posted_call (by_id (ioprocs_of desks.old.items) k)) }
-    requires prepared { slice_get (prepared_of desks.old.items) (k - 1) ≡ Some true }
+/// Begins the call that is posted at an ioproc.
+pub(crate) fn take(desks: &mut Vec<Desk>, k: u32)
+    requires { IsSome (posted_call (by_id (ioprocs_of desks.old.items) k)) }
     ensures shown { shown_of desks.new.items ≡ with_begun k (by_id (ioprocs_of desks.old.items) k) (shown_of desks.old.items) }
-    ensures here { slice_get (rooms_of desks.new.items) (k - 1) ≡ Some true }
+    ensures here { slice_get (prepared_of desks.old.items) (k - 1) ≡ Some true
+        → slice_get (rooms_of desks.new.items) (k - 1) ≡ Some true }
     ensures calls { begun_count (ioprocs_of desks.new.items) ≡ begun_count (ioprocs_of desks.old.items) + 1 }
     ensures few { begun_count (ioprocs_of desks.old.items) < length desks.old.items }
 {
     let i = index_of(desks, k);
     let desk = &mut desks[i];
-    desk.begin();
+    desk.take();
+}
+
+/// Lets the thread that waits at an ioproc go, if one does.
+pub(crate) fn interrupt(desks: &mut Vec<Desk>, k: u32)
+    requires { IsSome (by_id (ioprocs_of desks.old.items) k) }
+    ensures shown { shown_of desks.new.items ≡ interrupted k (by_id (ioprocs_of desks.old.items) k) (shown_of desks.old.items) }
+    ensures calls { begun_count (ioprocs_of desks.new.items) ≡ begun_count (ioprocs_of desks.old.items) }
+{
+    let i = index_of(desks, k);
+    let desk = &mut desks[i];
+    desk.interrupt();
+}
+
+/// Ends the begun call of an ioproc.
+pub(crate) fn free(desks: &mut Vec<Desk>, k: u32)
+    requires { IsSome (begun_call (by_id (ioprocs_of desks.old.items) k)) }
+    ensures shown { shown_of desks.new.items ≡ with_ioproc k Idle (shown_of desks.old.items) }
+    ensures calls { begun_count (ioprocs_of desks.new.items) + 1 ≡ begun_count (ioprocs_of desks.old.items) }
+{
+    let i = index_of(desks, k);
+    let desk = &mut desks[i];
+    desk.rest(Ioproc::Idle);
 }
 
 /// Ends the begun call of an ioproc with what it came to, if that fits.
@@ -120,6 +142,8 @@ pub(crate) fn finish(
     effect: &Effect,
     alloc: Global,
 ) -> Option<Finished>
+    requires { IfSome (begun_call (by_id (ioprocs_of desks.old.items) k))
+        (λ call. slice_get (prepared_of desks.old.items) (k - 1) ≡ Some true) }
     ensures finished { result ≡ finish_of effect.now (by_id (ioprocs_of desks.old.items) k) }
     ensures some { OnSome result (shown_of desks.new.items ≡ with_ioproc k Idle (shown_of desks.old.items)) }
     ensures none { IfNone result (shown_of desks.new.items ≡ shown_of desks.old.items) }
@@ -179,4 +203,17 @@ pub(crate) fn any_has_call(desks: &[Desk]) -> bool
     ensures { result ≡ list_any has_call (ioprocs_of desks.now) }
 {
     some_has_call(desks)
+}
+
+fn some_waits(desks: &[Desk], t: Tid) -> bool
+    ensures { result ≡ list_any (λ d. waits_at t d.ioproc) desks.now }
+{
+    desks.iter().any(|desk| waits_at(t, &desk.ioproc))
+}
+
+/// Whether thread t waits at an ioproc.
+pub(crate) fn any_waits(desks: &[Desk], t: Tid) -> bool
+    ensures { result ≡ list_any (waits_at t) (ioprocs_of desks.now) }
+{
+    some_waits(desks, t)
 }

@@ -22,14 +22,9 @@ pub(crate) fn room_for(call: &IoCall) -> usize
     ensures { result ≡ room_for call.now }
 {
     match call {
-        IoCall::IoReadN(n) => {
-            if *n > MOST_READ_BYTES {
-                MOST_READ_BYTES as usize
-            } else {
-                *n as usize
-            }
-        }
-        _ => 0,
+        IoCall::IoRead(n) | IoCall::IoReadN(n) => MOST_READ_BYTES.min(*n) as usize,
+        IoCall::IoOwn(..) => MOST_READ_BYTES as usize,
+        IoCall::IoOpen | IoCall::IoWrite(_) | IoCall::IoClose => 0,
     }
 }
 
@@ -43,11 +38,15 @@ pub(crate) fn fits(call: &IoCall, effect: &Effect) -> bool
         (IoCall::IoOpen, Effect::Refused) => true,
         (IoCall::IoClose, Effect::Shut) => true,
         (IoCall::IoClose, Effect::Refused) => true,
-        (IoCall::IoReadN(n), Effect::Got { bytes, .. }) => {
+        (IoCall::IoRead(n) | IoCall::IoReadN(n), Effect::Got { bytes, .. }) => {
             let len = bytes.as_slice().len();
             len <= *n as usize && len <= MOST_READ_BYTES as usize
         }
-        (IoCall::IoReadN(_), Effect::Refused) => true,
+        (IoCall::IoRead(_) | IoCall::IoReadN(_), Effect::Refused) => true,
+        (IoCall::IoOwn(..), Effect::Got { bytes, .. }) => {
+            bytes.as_slice().len() <= MOST_READ_BYTES as usize
+        }
+        (IoCall::IoOwn(..), Effect::Refused) => true,
         (IoCall::IoWrite(bytes), Effect::Wrote { count, failed }) => {
             let len = bytes.as_slice().len();
             *count as usize <= len && (*failed || *count as usize == len)

@@ -8,7 +8,11 @@ mod board;
 mod desk;
 mod desks;
 mod effects;
+mod io_state;
 mod ioprocs;
+#[cfg(test)]
+mod tests;
 
 pub use board::IoBoard;
 pub use effects::Finished;
+pub use io_state::IoState;
