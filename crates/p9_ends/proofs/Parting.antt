@@ -167,7 +167,7 @@ proc_ends p n sched sched' alts alts' locks locks' io io' notes notes' one count
         threads = after;
         alts = record { waits = a.waits; chans = a.chans };
         locks = record { holds = l.holds; waits = l.waits; on = l.on };
-        io = record { ioprocs = i.ioprocs };
+        io = record { ioprocs = i.ioprocs; copies = i.copies };
         notes = same_procs setup.places notes' (with_proc (quiet_if (not (eqb n 0))) p s) (proc_ended p s) procs (nts setup.places s st.notes);
       };
 }
@@ -194,7 +194,7 @@ all_end sched sched' alts alts' locks locks' io io' notes notes' places is threa
         threads = after;
         alts = record { waits = a.waits; chans = a.chans };
         locks = record { holds = l.holds; waits = l.waits; on = l.on };
-        io = record { ioprocs = i.ioprocs };
+        io = record { ioprocs = i.ioprocs; copies = i.copies };
         notes = same_procs setup.places notes' (living_quiet sched.threads (length sched.lines) s) (all_ended s) procs (nts setup.places s st.notes);
       };
 }

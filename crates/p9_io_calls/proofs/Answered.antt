@@ -33,10 +33,10 @@ use Rattle.p9_io_calls.proofs.Calling.{StaysWithout, parties_more, caller_in_cal
 pub sched_io : (places : ℕ) (sched : Schedule) (s : State) (ios : List Ioproc) → SchedFor places sched s → SchedFor places sched (record s { ioprocs = ios })
 sched_io places sched s ios h = record { threads = h.threads; lines = h.lines; words = h.words; opened = h.opened; count = h.count; held = record { held = h.held.held } }
 
-serves_by : (setup : Setup) (s : State) (o p : Outcome) (reply : Reply) (sched : Schedule) (desks : Desks) → o ≡ p → Serves setup s p reply sched desks → Serves setup s o reply sched desks
+pub serves_by : (setup : Setup) (s : State) (o p : Outcome) (reply : Reply) (sched : Schedule) (desks : Desks) → o ≡ p → Serves setup s p reply sched desks → Serves setup s o reply sched desks
 serves_by setup s o p reply sched desks e h = subst (λ (x : Outcome). Serves setup s x reply sched desks) (sym e) h
 
-if_false : {A : Type 0} (b : Bool) (x y : A) → b ≡ false → (if b then x else y) ≡ y
+pub if_false : {A : Type 0} (b : Bool) (x y : A) → b ≡ false → (if b then x else y) ≡ y
 if_false true x y e = cc
 if_false false x y e = refl
 
@@ -53,7 +53,7 @@ serves_posted setup s t k call sched desks found short threads ioprocs =
     serves_by setup s _ _ Waits sched desks (post_waits t k call s _ found short) (record {
       reply_is = refl;
       threads = threads;
-      ioprocs = record { ioprocs = ioprocs.ioprocs };
+      ioprocs = record { ioprocs = ioprocs.ioprocs; copies = ioprocs.copies };
       others = refl;
       alts = parties_more s.waits (record { tid = t; request = IoRequest (IoRun k call); at = s.position }) refl;
       locks = locks_push s.waits (record { tid = t; request = IoRequest (IoRun k call); at = s.position }) refl;
@@ -112,7 +112,7 @@ noted k effect s f o h b = rw h.is (if_true _ _ _ h.fitting ∙ ap (λ (n : Stat
 
 io_answered : (caller : Option ℕ) (answer : IoAnswer) (desks : Desks) (s : State) → IoFor desks s → IoFor desks (with_answer caller answer s)
 io_answered None answer desks s h = h
-io_answered (Some t) answer desks s h = record { ioprocs = h.ioprocs }
+io_answered (Some t) answer desks s h = record { ioprocs = h.ioprocs; copies = h.copies }
 
 others_answered : (caller : Option ℕ) (answer : IoAnswer) (s : State) (ios : List Ioproc) (ws : List Waiter) → let n : State = with_answer caller answer (record s { ioprocs = ios; waits = ws }) in n ≡ record s { threads = n.threads; line = n.line; waits = n.waits; ioprocs = n.ioprocs }
 others_answered None answer s ios ws = refl
@@ -140,7 +140,7 @@ serves_noted setup s k effect f old sched before desks stands e threads ioprocs 
     serves_by setup s _ _ Noted sched desks (noted k effect s f _ h b) (record {
       reply_is = refl;
       threads = threads setup.places n start;
-      ioprocs = io_answered f.caller f.answer desks n (record { ioprocs = ioprocs.ioprocs });
+      ioprocs = io_answered f.caller f.answer desks n (record { ioprocs = ioprocs.ioprocs; copies = ioprocs.copies });
       others = others_answered f.caller f.answer s _ _;
       alts = alts_answered f.caller f.answer m b;
       locks = locks_answered f.caller f.answer m b;

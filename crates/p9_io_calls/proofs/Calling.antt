@@ -150,19 +150,26 @@ at_most_one (stand.Ready a) = omega arith
 at_most_one stand.Waiting = omega arith
 at_most_one stand.Ended = omega arith
 
--- the thread that a begun call is for waits
-pub caller_waits : (setup : Setup) (s : State) (k : ℕ) (caller : Option ℕ) (call : IoCall) → IsSound setup s → by_id s.ioprocs k ≡ Some (Begun caller call) → IsWaiting caller s.threads
-caller_waits setup s k None call sound e = tt
-caller_waits setup s k (Some t) call sound e =
-    let here : waiting_calls k s.waits ≡ (t, call) ∷ [] = sound.calls.calls k ∙ ap call_of e in
+-- the thread that an ioproc has a call for waits
+pub called_waits : (setup : Setup) (s : State) (k t : ℕ) (call : IoCall) → IsSound setup s → call_of (by_id s.ioprocs k) ≡ (t, call) ∷ [] → place_of (by_id s.threads t) ≡ place.Waiting
+called_waits setup s k t call sound e =
+    let here : waiting_calls k s.waits ≡ (t, call) ∷ [] = sound.calls.calls k ∙ e in
     let n : 1 ≤ times (λ w. w.tid == t) s.waits = calls_counted k t call s.waits here in
     let i : times (λ w. w.tid == t) s.waits ≡ times_in_waits (stand_of s.threads t) = sound.stand.in_waits t in
     told_waiting (by_id s.threads t) (waits_from (stand_of s.threads t) (omega arith))
 
 -- and it has no alt, and waits at no lock
-pub caller_in_call : (setup : Setup) (s : State) (k t : ℕ) (call : IoCall) → IsSound setup s → by_id s.ioprocs k ≡ Some (Begun (Some t) call) → StaysWithout t s.waits
-caller_in_call setup s k t call sound e =
-    let here : waiting_calls k s.waits ≡ (t, call) ∷ [] = sound.calls.calls k ∙ ap call_of e in
+pub called_beside : (setup : Setup) (s : State) (k t : ℕ) (call : IoCall) → IsSound setup s → call_of (by_id s.ioprocs k) ≡ (t, call) ∷ [] → StaysWithout t s.waits
+called_beside setup s k t call sound e =
+    let here : waiting_calls k s.waits ≡ (t, call) ∷ [] = sound.calls.calls k ∙ e in
     let i : times (λ w. w.tid == t) s.waits ≡ times_in_waits (stand_of s.threads t) = sound.stand.in_waits t in
     let le = at_most_one (stand_of s.threads t) in
     in_call k t call s.waits here (omega arith)
+
+-- the same of the thread that a begun call is for
+pub caller_waits : (setup : Setup) (s : State) (k : ℕ) (caller : Option ℕ) (call : IoCall) → IsSound setup s → by_id s.ioprocs k ≡ Some (Begun caller call) → IsWaiting caller s.threads
+caller_waits setup s k None call sound e = tt
+caller_waits setup s k (Some t) call sound e = called_waits setup s k t call sound (ap call_of e)
+
+pub caller_in_call : (setup : Setup) (s : State) (k t : ℕ) (call : IoCall) → IsSound setup s → by_id s.ioprocs k ≡ Some (Begun (Some t) call) → StaysWithout t s.waits
+caller_in_call setup s k t call sound e = called_beside setup s k t call sound (ap call_of e)

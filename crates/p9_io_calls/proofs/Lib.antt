@@ -1,3 +1,5 @@
 pub mod Answered
 pub mod Beside
 pub mod Calling
+pub mod Interrupted
+pub mod Taking

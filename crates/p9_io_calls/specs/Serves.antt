@@ -5,7 +5,7 @@ use Rattle.p9_word.specs.declared.answer.Answer.TheVariants.{Io as IoAnswered}
 use Rattle.p9_word.specs.declared.answer.IoAnswer.{IoAnswer}
 use Rattle.p9_word.specs.declared.setup.Setup.{Setup}
 use Rattle.p9_word.specs.declared.trail.Reply.{Reply}
-use Rattle.p9_word.specs.declared.trail.Reply.TheVariants.{Now, Waits, Ended, Begin, Turn, Caught, Died, Idle, Over, Stuck, Stray, Took, Noted}
+use Rattle.p9_word.specs.declared.trail.Reply.TheVariants.{Now, Waits, Ended, Begin, Turn, Caught, Died, Idle, Over, Stuck, Halted, Stray, Took, Noted}
 use Rattle.p9_manual.specs.declared.state.Thread.{Thread}
 use Rattle.p9_manual.specs.LockWaits.{lock_waiters}
 use Rattle.p9_manual.specs.Offers.{parties}
@@ -59,6 +59,7 @@ rooms_after k (Died note) rooms = rooms
 rooms_after k Idle rooms = rooms
 rooms_after k Over rooms = rooms
 rooms_after k Stuck rooms = rooms
+rooms_after k Halted rooms = rooms
 rooms_after k Stray rooms = rooms
 rooms_after k Noted rooms = rooms
 

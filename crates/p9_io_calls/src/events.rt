@@ -50,7 +50,7 @@ pub fn take(sched: &Sched, io: &mut IoBoard, k: u32, over: bool, spare: Spare) -
             let Spare::Copy(call) = spare else {
                 unreachable!();
             };
-            io.begin(k);
+            let _took = io.take(k);
             Reply::Took(call)
         }
         Some(Ioproc::Begun(..)) => unless_over(is_over, Reply::Stray),

@@ -1,8 +1,12 @@
 use Rattle.p9_manual.specs.Ioprocs.{io_event}
 use Rattle.p9_manual.specs.State.{by_id}
+use Rattle.p9_io.proofs.Ready.{copy_at}
 use Rattle.p9_io_calls.proofs.Answered.{told, serves_noted}
 use Rattle.p9_io_calls.proofs.Calling.{caller_waits}
 use Rattle.p9_io_calls.proofs.events.did.Goals as goal
+
+pub finish-requires : goal.finish-requires
+finish-requires c = copy_at c.args.io.now c.args.k c.requires.2.ioprocs.copies
 
 pub answer_caller-requires : goal.answer_caller-requires
 answer_caller-requires c =
