@@ -4,3 +4,4 @@ pub mod Reached
 pub mod DeviceRuns
 pub mod FileRuns
 pub mod MemoryEntries
+pub mod MemoryPlans

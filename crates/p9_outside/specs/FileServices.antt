@@ -7,15 +7,16 @@ use Rattle.p9_manual.specs.Effects.{Fits, got, has_failed, put}
 use Rattle.p9_outside.specs.declared.file_device.FileDevice.{FileDevice}
 use Rattle.p9_outside.specs.declared.file_device.FileDevice.TheVariants.{In, Out}
 use Rattle.p9_outside.specs.Causes.{CountsFault}
+use Rattle.p9_outside.specs.Promised.{SourceTells, SinkTells}
 use Rattle.p9_outside.specs.Reading.{ReadServes}
 use Rattle.p9_outside.specs.Writing.{WriteServes}
 
 -- a file keeps its direction, and does what a file of that direction does
-abbrev pub FileServes : {S K : Type 0} → (S → Option (List ℕ)) → (S → ℕ) → (K → Option (List ℕ)) → (K → ℕ) → FileDevice S K → IoCall → Effect → FileDevice S K → Type 0
-FileServes left faults held counts (In old) call effect (In new) = ReadServes left faults old call effect new
-FileServes left faults held counts (Out old) call effect (Out new) = WriteServes held counts old call effect new
-FileServes left faults held counts (In old) call effect (Out new) = ⊥
-FileServes left faults held counts (Out old) call effect (In new) = ⊥
+abbrev pub FileServes : {S K : Type 0} → SourceTells S → SinkTells K → FileDevice S K → IoCall → Effect → FileDevice S K → Type 0
+FileServes source sink (In old) call effect (In new) = ReadServes source old call effect new
+FileServes source sink (Out old) call effect (Out new) = WriteServes sink old call effect new
+FileServes source sink (In old) call effect (Out new) = ⊥
+FileServes source sink (Out old) call effect (In new) = ⊥
 
 -- the bytes that a file has left to give, where its source tells them; one that is written gives none
 abbrev pub file_left : {S K : Type 0} → (S → Option (List ℕ)) → FileDevice S K → Option (List ℕ)
@@ -33,29 +34,29 @@ fault_count faults counts (In d) = faults d.source
 fault_count faults counts (Out d) = counts d.sink
 
 -- its effects fit its calls
-pub file_fits : {S K : Type 0} (left : S → Option (List ℕ)) (faults : S → ℕ) (held : K → Option (List ℕ)) (counts : K → ℕ) (old : FileDevice S K) (call : IoCall) (effect : Effect) (new : FileDevice S K) → FileServes left faults held counts old call effect new → Fits call effect
-file_fits left faults held counts (In old) call effect (In new) done = done.file.fits
-file_fits left faults held counts (Out old) call effect (Out new) done = done.file.fits
-file_fits left faults held counts (In old) call effect (Out new) done = absurd done
-file_fits left faults held counts (Out old) call effect (In new) done = absurd done
+pub file_fits : {S K : Type 0} (source : SourceTells S) (sink : SinkTells K) (old : FileDevice S K) (call : IoCall) (effect : Effect) (new : FileDevice S K) → FileServes source sink old call effect new → Fits call effect
+file_fits source sink (In old) call effect (In new) done = done.file.fits
+file_fits source sink (Out old) call effect (Out new) done = done.file.fits
+file_fits source sink (In old) call effect (Out new) done = absurd done
+file_fits source sink (Out old) call effect (In new) done = absurd done
 
 -- the bytes that it gives are the first of those left
-pub file_gives : {S K : Type 0} (left : S → Option (List ℕ)) (faults : S → ℕ) (held : K → Option (List ℕ)) (counts : K → ℕ) (old : FileDevice S K) (call : IoCall) (effect : Effect) (new : FileDevice S K) → FileServes left faults held counts old call effect new → Consumes (file_left left old) (file_left left new) (got effect)
-file_gives left faults held counts (In old) call effect (In new) done = done.bytes
-file_gives left faults held counts (Out old) call effect (Out new) done = tt
-file_gives left faults held counts (In old) call effect (Out new) done = absurd done
-file_gives left faults held counts (Out old) call effect (In new) done = absurd done
+pub file_gives : {S K : Type 0} (source : SourceTells S) (sink : SinkTells K) (old : FileDevice S K) (call : IoCall) (effect : Effect) (new : FileDevice S K) → FileServes source sink old call effect new → Consumes (file_left source.left old) (file_left source.left new) (got effect)
+file_gives source sink (In old) call effect (In new) done = done.bytes
+file_gives source sink (Out old) call effect (Out new) done = tt
+file_gives source sink (In old) call effect (Out new) done = absurd done
+file_gives source sink (Out old) call effect (In new) done = absurd done
 
 -- the bytes that it takes are added to those held
-pub file_takes : {S K : Type 0} (left : S → Option (List ℕ)) (faults : S → ℕ) (held : K → Option (List ℕ)) (counts : K → ℕ) (old : FileDevice S K) (call : IoCall) (effect : Effect) (new : FileDevice S K) → FileServes left faults held counts old call effect new → Appends (file_held held old) (file_held held new) (put call effect)
-file_takes left faults held counts (In old) call effect (In new) done = tt
-file_takes left faults held counts (Out old) call effect (Out new) done = done.bytes
-file_takes left faults held counts (In old) call effect (Out new) done = absurd done
-file_takes left faults held counts (Out old) call effect (In new) done = absurd done
+pub file_takes : {S K : Type 0} (source : SourceTells S) (sink : SinkTells K) (old : FileDevice S K) (call : IoCall) (effect : Effect) (new : FileDevice S K) → FileServes source sink old call effect new → Appends (file_held sink.held old) (file_held sink.held new) (put call effect)
+file_takes source sink (In old) call effect (In new) done = tt
+file_takes source sink (Out old) call effect (Out new) done = done.bytes
+file_takes source sink (In old) call effect (Out new) done = absurd done
+file_takes source sink (Out old) call effect (In new) done = absurd done
 
 -- its count of faults rises by just one with each effect that failed
-pub file_counts : {S K : Type 0} (left : S → Option (List ℕ)) (faults : S → ℕ) (held : K → Option (List ℕ)) (counts : K → ℕ) (old : FileDevice S K) (call : IoCall) (effect : Effect) (new : FileDevice S K) → FileServes left faults held counts old call effect new → CountsFault (has_failed effect) (fault_count faults counts old) (fault_count faults counts new)
-file_counts left faults held counts (In old) call effect (In new) done = done.tells
-file_counts left faults held counts (Out old) call effect (Out new) done = done.tells
-file_counts left faults held counts (In old) call effect (Out new) done = absurd done
-file_counts left faults held counts (Out old) call effect (In new) done = absurd done
+pub file_counts : {S K : Type 0} (source : SourceTells S) (sink : SinkTells K) (old : FileDevice S K) (call : IoCall) (effect : Effect) (new : FileDevice S K) → FileServes source sink old call effect new → CountsFault (has_failed effect) (fault_count source.faults sink.faults old) (fault_count source.faults sink.faults new)
+file_counts source sink (In old) call effect (In new) done = done.tells
+file_counts source sink (Out old) call effect (Out new) done = done.tells
+file_counts source sink (In old) call effect (Out new) done = absurd done
+file_counts source sink (Out old) call effect (In new) done = absurd done

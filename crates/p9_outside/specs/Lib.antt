@@ -8,6 +8,7 @@ pub mod FileServices
 pub mod Memory
 pub mod MemoryFiles
 pub mod Plans
+pub mod Promised
 pub mod Reached
 pub mod Reading
 pub mod Writing

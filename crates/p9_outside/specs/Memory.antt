@@ -1,5 +1,5 @@
 -- The source and the sink in memory: what each has left or holds, and which of its calls fail.
-use Rattle.std.specs.Prelude.{ℕ, ◌≡◌, ◌-◌, ◌⊎◌, min, List, length, drop, Contains}
+use Rattle.std.specs.Prelude.{ℕ, ◌≡◌, ◌-◌, ◌⊎◌, min, Bool, true, false, List, [], ◌∷◌, length, drop, Contains}
 use Rattle.p9_outside.specs.declared.memory.source.MemSource.{MemSource}
 use Rattle.p9_outside.specs.declared.memory.sink.MemSink.{MemSink}
 use Rattle.p9_outside.specs.Counts.{raised}
@@ -45,6 +45,24 @@ sink_calls s = s.calls
 
 abbrev pub sink_faults : MemSink → ℕ
 sink_faults s = s.faults
+
+-- no failure is planned
+abbrev pub none_fails : List ℕ → Bool
+none_fails [] = true
+none_fails (n ∷ fails) = false
+
+-- so much, where no failure is planned, and else nothing
+abbrev pub unless_planned : List ℕ → ℕ → ℕ
+unless_planned [] n = n
+unless_planned (m ∷ fails) n = 0
+
+-- no read is planned to fail
+abbrev pub source_steady : MemSource → Bool
+source_steady s = none_fails (source_fails s)
+
+-- the room that is left, where no write is planned to fail
+abbrev pub sink_firm : MemSink → ℕ
+sink_firm s = unless_planned (sink_fails s) (sink_room s - length (sink_held s))
 
 -- a count after one more
 abbrev pub counted : ℕ → ℕ

@@ -1,17 +1,18 @@
 -- Files in memory: their contents, the failures planned, the room of a sink, and the calls that failed.
-use Rattle.std.specs.Prelude.{ℕ, ◌≡◌, ◌⊎◌, ◌++◌, List, [], ◌∷◌, true, false, Option, Some, None, cond, bytes_eq}
+use Rattle.std.specs.Prelude.{ℕ, ◌≡◌, ◌⊎◌, ◌++◌, ◌&&◌, List, [], ◌∷◌, true, false, not, Option, Some, None, is_some, cond, bytes_eq}
 use Rattle.p9_word.specs.declared.limits.TheConstants.{BLOCK_BYTES}
 use Rattle.p9_outside.specs.declared.memory.files.TheConstants.{ROOM}
 use Rattle.p9_outside.specs.declared.memory.files.Held.{Held}
 use Rattle.p9_outside.specs.declared.memory.files.MemFiles.{MemFiles}
 use Rattle.p9_outside.specs.declared.memory.plans.Plan.{Plan}
 use Rattle.p9_outside.specs.declared.memory.plans.PathFail.{PathFail}
-use Rattle.p9_outside.specs.declared.memory.plans.PathFail.TheVariants.{Source}
+use Rattle.p9_outside.specs.declared.memory.plans.PathFail.TheVariants.{Source, Sink, Close}
 use Rattle.p9_outside.specs.declared.memory.source.MemSource.{MemSource}
 use Rattle.p9_outside.specs.declared.memory.sink.MemSink.{MemSink}
 use Rattle.p9_outside.specs.Contents.{Told}
-use Rattle.p9_outside.specs.Memory.{counted, source_left, source_most, source_fails, source_calls, source_faults, sink_held, sink_room, sink_most, sink_fails, sink_calls, sink_faults}
+use Rattle.p9_outside.specs.Memory.{counted, none_fails, unless_planned, source_left, source_most, source_fails, source_calls, source_faults, sink_held, sink_room, sink_most, sink_fails, sink_calls, sink_faults}
 use Rattle.p9_outside.specs.Plans.{planned, is_planned, spent, numbers}
+use Rattle.p9_outside.specs.Promised.{PathTold}
 
 -- the contents of a path: those of its entry
 abbrev pub found : List Held → List ℕ → Option (List ℕ)
@@ -49,6 +50,16 @@ contents_of f = Some (found (parts_of f).held)
 -- the contents of a path, or None
 abbrev pub bytes_at : MemFiles → List ℕ → Option (List ℕ)
 bytes_at f path = found (parts_of f).held path
+
+-- what is told of a path: what isn't planned to fail doesn't, where there is room, and contents to be read
+abbrev pub told_of : Parts → List ℕ → PathTold
+told_of parts path = record {
+  steady = none_fails (numbers true parts.plans path);
+  firm = unless_planned (numbers false parts.plans path) parts.room;
+  found = not (is_planned parts.plans path Source) && is_some (found parts.held path);
+  made = not (is_planned parts.plans path Sink);
+  closes = not (is_planned parts.plans path Close);
+}
 
 -- one failure more is planned
 abbrev pub with_plan : Parts → List ℕ → PathFail → Parts

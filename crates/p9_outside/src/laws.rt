@@ -5,6 +5,7 @@ ghost use Rattle.std.specs.Prelude.{ℕ, List, [], Option};
 ghost use Rattle.std.specs.Io.KnownBytes.{Consumes, Appends};
 ghost use Rattle.p9_outside.specs.DeviceRuns.{DevicesRun};
 ghost use Rattle.p9_outside.specs.FileRuns.{FilesRun, UntoldAreFull};
+ghost use Rattle.p9_outside.specs.Promised.{source_tells, sink_tells};
 ghost use Rattle.p9_outside.specs.Reached.{LeadOn};
 
 use crate::{Device, Sink, Source};
@@ -21,7 +22,7 @@ pub fn devices_run<D: Device>()
 
 /// What the services of a file come to, one after the other.
 pub fn files_run<S: Source, K: Sink>()
-    ensures { FilesRun S.left S.faults K.held K.faults }
+    ensures { FilesRun (source_tells S.left S.faults S.steady) (sink_tells K.held K.faults K.firm) }
 {}
 
 /// Where the bytes left aren't told, nothing is said of whether reads are full.

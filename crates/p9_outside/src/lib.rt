@@ -13,6 +13,7 @@ mod files;
 pub mod laws;
 mod memory;
 mod reading;
+mod reads;
 mod real;
 mod sink;
 mod source;

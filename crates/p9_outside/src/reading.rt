@@ -1,19 +1,17 @@
-ghost use Rattle.std.specs.Prelude.{◌≡◌, ◌⊎◌, ◌≤◌, [], length, false};
-ghost use Rattle.std.specs.Io.KnownBytes.{Consumes, IsAtEnd};
-ghost use Rattle.p9_outside.specs.Causes.{CountsFault};
-ghost use Rattle.p9_outside.specs.Reading.{ReadsN};
+ghost use Rattle.std.specs.Prelude.{◌≡◌, ◌<◌, ◌≤◌, [], false};
+ghost use Rattle.p9_outside.specs.Promised.{source_tells};
+ghost use Rattle.p9_outside.specs.Reading.{ReadsBy};
+ghost use Rattle.p9_word.specs.declared.io_call.IoCall.TheVariants.{IoRead, IoReadN};
 
-use crate::{Device, Failed, Source};
-use p9_word::limits::{BLOCK_BYTES, MOST_READ_BYTES};
+use crate::reads::{fill, read_piece};
+use crate::{Device, Source};
+use p9_word::limits::MOST_READ_BYTES;
 use p9_word::{Effect, IoCall, Msg, Room};
-
-/// The most bytes that one read asks for: a block is read by one read.
-const PIECE: usize = BLOCK_BYTES as usize;
 
 /// A file that is read.
 ///
-/// It begins shut. It refuses a write, a read while it is shut, and a read of no bytes or of more than
-/// [`MOST_READ_BYTES`]. After a failed read the source is read no more, and every later read gives no bytes.
+/// It begins shut. It refuses a write, a read while it is shut, a read of no bytes or of more than
+/// [`MOST_READ_BYTES`], and whatever else a file doesn't do. After a failed read the source is read no more, and every later read gives no bytes.
 #[derive(Drop)]
 pub struct ReadDevice<S> {
     source: S,
@@ -21,34 +19,10 @@ pub struct ReadDevice<S> {
     has_failed: bool,
 }
 
-/// Reads until there are `n` bytes, the end came or a read failed, and tells whether one failed.
-fn fill<S: Source>(source: &mut S, n: usize, room: &mut Room<u8>) -> bool
-    requires empty { room.old.items ≡ [] }
-    requires room { n ≤ room.old.spare }
-    ensures most { length room.new.items ≤ n }
-    ensures bytes { Consumes (S.left source.old) (S.left source.new) room.new.items }
-    ensures full { result ≡ false → (length room.new.items ≡ n) ⊎ IsAtEnd (S.left source.new) }
-    ensures faults { CountsFault result (S.faults source.old) (S.faults source.new) }
-{
-    let mut buf = [0; PIECE];
-    let mut len = 0;
-    while len < n {
-        let want = PIECE.min(n - len);
-        match source.read(&mut buf[..want]) {
-            Ok(0) => return false,
-            Ok(count) => {
-                room.push_all(&buf[..count]);
-                len += count;
-            }
-            Err(Failed) => return true,
-        }
-    }
-    false
-}
-
 impl<S: Source> ReadDevice<S> {
     ghost use Rattle.p9_outside.specs.Reading.{reader_at, source_of};
-    ghost use Rattle.p9_manual.specs.Files.{at_first};
+    ghost use Rattle.std.specs.Prelude.{not};
+    ghost use Rattle.p9_manual.specs.Files.{at_first, refuses_read};
 
     /// A file over this source, shut.
     pub fn new(s: S) -> ReadDevice<S>
@@ -74,11 +48,38 @@ impl<S: Source> ReadDevice<S> {
         source
     }
 
-    /// Reads `n` bytes, unless a read has failed before.
+    /// Whether the file is open and a read of `n` bytes is neither of none nor of too many.
+    fn may_read(&self, n: u32) -> bool
+        ensures { result ≡ not (refuses_read false self.now.is_open n) }
+    {
+        self.is_open && n != 0 && n <= MOST_READ_BYTES
+    }
+
+    /// Reads at most `n` bytes by one read, unless a read has failed before.
+    fn read(&mut self, n: u32, mut room: Room<u8>) -> Effect
+        requires some { 0 < n }
+        requires empty { room.items ≡ [] }
+        requires room { n ≤ room.spare }
+        ensures { ReadsBy (source_tells S.left S.faults S.steady) self.old (IoRead n) n result self.new }
+    {
+        if self.has_failed {
+            return Effect::Got {
+                failed: false,
+                bytes: Msg::new(),
+            };
+        }
+        self.has_failed = read_piece(&mut self.source, n as usize, &mut room);
+        Effect::Got {
+            failed: self.has_failed,
+            bytes: room.into_msg(),
+        }
+    }
+
+    /// Reads `n` bytes, or all that are left, unless a read has failed before.
     fn read_n(&mut self, n: u32, mut room: Room<u8>) -> Effect
         requires empty { room.items ≡ [] }
         requires room { n ≤ room.spare }
-        ensures { ReadsN S.left S.faults self.old n result self.new }
+        ensures { ReadsBy (source_tells S.left S.faults S.steady) self.old (IoReadN n) n result self.new }
     {
         if self.has_failed {
             return Effect::Got {
@@ -99,7 +100,7 @@ impl<S: Source> Device for ReadDevice<S> {
     ghost use Rattle.std.specs.Prelude.{None};
     ghost use Rattle.p9_outside.specs.Reading.{ReadServes, source_of};
 
-    ghost serves = { λ old call effect new. ReadServes S.left S.faults old call effect new };
+    ghost serves = { λ old call effect new. ReadServes (source_tells S.left S.faults S.steady) old call effect new };
 
     ghost left = { λ d. S.left (source_of d) };
 
@@ -125,10 +126,10 @@ impl<S: Source> Device for ReadDevice<S> {
                 self.is_open = false;
                 Effect::Shut
             }
-            IoCall::IoReadN(n) if self.is_open && *n != 0 && *n <= MOST_READ_BYTES => {
-                self.read_n(*n, room)
-            }
-            _ => Effect::Refused,
+            IoCall::IoRead(n) if self.may_read(*n) => self.read(*n, room),
+            IoCall::IoReadN(n) if self.may_read(*n) => self.read_n(*n, room),
+            IoCall::IoRead(_) | IoCall::IoReadN(_) => Effect::Refused,
+            IoCall::IoWrite(_) | IoCall::IoOwn(_, _) => Effect::Refused,
         }
     }
 }

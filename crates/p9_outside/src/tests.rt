@@ -114,6 +114,86 @@ fn a_file_is_written_until_a_write_fails(rt: HostRuntime) -> Result<(), Fail> {
 }
 
 #[test]
+fn a_single_read_gives_what_one_read_gives(rt: HostRuntime) -> Result<(), Fail> {
+    let alloc = rt.alloc();
+    let bytes = lasts(Msg::from_slice(alloc, b"abcdef"))?;
+    let source = MemSource::new(bytes, 4, numbers(alloc, 4)?);
+    let mut device: FileDevice<MemSource, MemSink> = FileDevice::In(ReadDevice::new(source));
+    expect_effect(&rt, alloc, &mut device, IoCall::IoRead(3), "refused")?;
+    expect_effect(&rt, alloc, &mut device, IoCall::IoOpen, "opened")?;
+    expect_effect(&rt, alloc, &mut device, IoCall::IoRead(0), "refused")?;
+    expect_effect(&rt, alloc, &mut device, IoCall::IoRead(65537), "refused")?;
+    expect_effect(&rt, alloc, &mut device, IoCall::IoRead(3), "abc false")?;
+    expect_effect(&rt, alloc, &mut device, IoCall::IoRead(65536), "def false")?;
+    expect_effect(&rt, alloc, &mut device, IoCall::IoRead(3), " false")?;
+    expect_effect(&rt, alloc, &mut device, IoCall::IoRead(3), " true")?;
+    expect_effect(&rt, alloc, &mut device, IoCall::IoRead(3), " false")?;
+    expect_effect(&rt, alloc, &mut device, IoCall::IoReadN(3), " false")?;
+    Ok(())
+}
+
+#[test]
+fn a_file_that_is_read_refuses_the_rest(rt: HostRuntime) -> Result<(), Fail> {
+    let alloc = rt.alloc();
+    let source = MemSource::new(
+        lasts(Msg::from_slice(alloc, b"abc"))?,
+        2,
+        numbers(alloc, 9)?,
+    );
+    let mut reader: FileDevice<MemSource, MemSink> = FileDevice::In(ReadDevice::new(source));
+    expect_effect(&rt, alloc, &mut reader, IoCall::IoOpen, "opened")?;
+    expect_effect(
+        &rt,
+        alloc,
+        &mut reader,
+        IoCall::IoWrite(Msg::new()),
+        "refused",
+    )?;
+    expect_effect(
+        &rt,
+        alloc,
+        &mut reader,
+        IoCall::IoOwn(7, Msg::new()),
+        "refused",
+    )?;
+    expect_effect(&rt, alloc, &mut reader, IoCall::IoReadN(65537), "refused")?;
+    Ok(())
+}
+
+#[test]
+fn a_file_that_is_written_refuses_the_rest(rt: HostRuntime) -> Result<(), Fail> {
+    let alloc = rt.alloc();
+    let sink = lasts(MemSink::new(alloc, 5, 2, numbers(alloc, 9)?))?;
+    let mut writer: FileDevice<MemSource, MemSink> = FileDevice::Out(WriteDevice::new(sink));
+    expect_effect(
+        &rt,
+        alloc,
+        &mut writer,
+        IoCall::IoWrite(Msg::new()),
+        "refused",
+    )?;
+    expect_effect(&rt, alloc, &mut writer, IoCall::IoOpen, "opened")?;
+    expect_effect(&rt, alloc, &mut writer, IoCall::IoRead(3), "refused")?;
+    expect_effect(&rt, alloc, &mut writer, IoCall::IoReadN(3), "refused")?;
+    expect_effect(
+        &rt,
+        alloc,
+        &mut writer,
+        IoCall::IoOwn(7, Msg::new()),
+        "refused",
+    )?;
+    expect_effect(
+        &rt,
+        alloc,
+        &mut writer,
+        IoCall::IoWrite(Msg::new()),
+        "0 false",
+    )?;
+    expect_effect(&rt, alloc, &mut writer, IoCall::IoClose, "shut")?;
+    Ok(())
+}
+
+#[test]
 fn memory_files_fail_as_planned(rt: HostRuntime) -> Result<(), Fail> {
     let alloc = rt.alloc();
     let mut files = MemFiles::new(alloc);

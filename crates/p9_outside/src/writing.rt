@@ -1,13 +1,14 @@
-ghost use Rattle.std.specs.Prelude.{◌≡◌, ◌≤◌, length, take, nat_lt};
+ghost use Rattle.std.specs.Prelude.{◌≡◌, ◌≤◌, ◌-◌, length, take, nat_lt};
 ghost use Rattle.std.specs.Io.KnownBytes.{Appends};
 ghost use Rattle.p9_outside.specs.Causes.{CountsFault};
+ghost use Rattle.p9_outside.specs.Promised.{sink_tells};
 
 use crate::{Device, Failed, Sink};
 use p9_word::{Effect, IoCall, Room};
 
 /// A file that is written.
 ///
-/// It begins shut. It refuses a read, and a write while it is shut. A message of no bytes makes no write.
+/// It begins shut. It refuses a read, a write while it is shut, and whatever else a file doesn't do. A message of no bytes makes no write.
 #[derive(Drop)]
 pub struct WriteDevice<K> {
     sink: K,
@@ -20,6 +21,8 @@ pub fn drain<K: Sink>(sink: &mut K, bytes: &[u8]) -> usize
     ensures most { result ≤ length bytes.now }
     ensures bytes { Appends (K.held sink.old) (K.held sink.new) (take result bytes.now) }
     ensures faults { CountsFault (nat_lt result (length bytes.now)) (K.faults sink.old) (K.faults sink.new) }
+    ensures firm { length bytes.now ≤ K.firm sink.old → result ≡ length bytes.now }
+    ensures lowered { K.firm sink.new ≡ K.firm sink.old - result }
 {
     let mut done = 0;
     while done < bytes.len() {
@@ -59,7 +62,7 @@ impl<K: Sink> Device for WriteDevice<K> {
     ghost use Rattle.std.specs.Prelude.{None};
     ghost use Rattle.p9_outside.specs.Writing.{WriteServes, sink_of};
 
-    ghost serves = { λ old call effect new. WriteServes K.held K.faults old call effect new };
+    ghost serves = { λ old call effect new. WriteServes (sink_tells K.held K.faults K.firm) old call effect new };
 
     ghost left = { λ d. None };
 
@@ -93,7 +96,8 @@ impl<K: Sink> Device for WriteDevice<K> {
                     failed: count < bytes.len(),
                 }
             }
-            _ => Effect::Refused,
+            IoCall::IoRead(_) | IoCall::IoReadN(_) => Effect::Refused,
+            IoCall::IoWrite(_) | IoCall::IoOwn(_, _) => Effect::Refused,
         }
     }
 }

@@ -1,9 +1,10 @@
 ghost use Rattle.std.specs.Prelude.{◌≡◌, ◌<◌, ◌≤◌, ◌∷◌, length, remove, true, false, Some, None, IfOk, OnOk, OnErr, MatchOption};
 ghost use Rattle.p9_outside.specs.Causes.{CountsFault, is_failed};
 ghost use Rattle.p9_outside.specs.Contents.{Stay, Opens, IsFresh, Puts};
-ghost use Rattle.p9_outside.specs.Memory.{source_left, sink_held};
-ghost use Rattle.p9_outside.specs.MemoryFiles.{found, without, entry, no_files, parts_of, contents_of, bytes_at, with_plan, CannotOpen, after_failure, KeepsPlans, IsSourceOf, IsSinkOf, OpensIn};
+ghost use Rattle.p9_outside.specs.Memory.{source_left, source_steady, sink_held, sink_firm};
+ghost use Rattle.p9_outside.specs.MemoryFiles.{found, without, entry, no_files, parts_of, contents_of, bytes_at, with_plan, CannotOpen, after_failure, KeepsPlans, IsSourceOf, IsSinkOf, OpensIn, told_of};
 ghost use Rattle.p9_outside.specs.Plans.{is_planned};
+ghost use Rattle.p9_outside.specs.Promised.{KeepsTold};
 
 use crate::memory::plans::{Plan, planned_numbers, spend};
 use crate::{Files, FilesFault, MemSink, MemSource, PathFail};
@@ -157,15 +158,20 @@ impl Files for MemFiles {
 
     ghost faults = { λ f. (parts_of f).faults };
 
+    ghost told = { λ f. told_of (parts_of f) };
+
     /// It is `Failed` exactly where that was planned or the path has no contents.
     fn source(&mut self, _alloc: Global, path: &[u8]) -> Result<MemSource, FilesFault>
         ensures contents { Stay (contents_of self.old) (contents_of self.new) }
         ensures opens { IfOk result (λ s. Opens (contents_of self.old) path.now (Some (source_left s))) }
         ensures faults { CountsFault (is_failed result) (parts_of self.old).faults (parts_of self.new).faults }
+        ensures kept { KeepsTold (told_of (parts_of self.old)) (told_of (parts_of self.new)) }
+        ensures sure { (told_of (parts_of self.old) path.now).found ≡ true → is_failed result ≡ false }
+        ensures steady { IfOk result (λ s. source_steady s ≡ (told_of (parts_of self.old) path.now).steady) }
 
         ensures unplanned { OnOk result (is_planned (parts_of self.old).plans path.now PathFail.Source ≡ false) }
         ensures made { IfOk result (λ s. IsSourceOf (parts_of self.old) path.now s) }
-        ensures kept { OnOk result (parts_of self.new ≡ parts_of self.old) }
+        ensures same { OnOk result (parts_of self.new ≡ parts_of self.old) }
         ensures memory { result ≡ Err FilesFault.Memory → parts_of self.new ≡ parts_of self.old }
         ensures cause { result ≡ Err FilesFault.Failed → CannotOpen (parts_of self.old) path.now }
         ensures counts { result ≡ Err FilesFault.Failed → parts_of self.new ≡ after_failure (parts_of self.old) path.now PathFail.Source }
@@ -186,10 +192,13 @@ impl Files for MemFiles {
         ensures contents { Stay (contents_of self.old) (contents_of self.new) }
         ensures fresh { IfOk result (λ s. IsFresh (contents_of self.old) (Some (sink_held s))) }
         ensures faults { CountsFault (is_failed result) (parts_of self.old).faults (parts_of self.new).faults }
+        ensures kept { KeepsTold (told_of (parts_of self.old)) (told_of (parts_of self.new)) }
+        ensures sure { (told_of (parts_of self.old) path.now).made ≡ true → is_failed result ≡ false }
+        ensures firm { IfOk result (λ s. sink_firm s ≡ (told_of (parts_of self.old) path.now).firm) }
 
         ensures unplanned { OnOk result (is_planned (parts_of self.old).plans path.now PathFail.Sink ≡ false) }
         ensures made { IfOk result (λ s. IsSinkOf (parts_of self.old) path.now s) }
-        ensures kept { OnOk result (parts_of self.new ≡ parts_of self.old) }
+        ensures same { OnOk result (parts_of self.new ≡ parts_of self.old) }
         ensures memory { result ≡ Err FilesFault.Memory → parts_of self.new ≡ parts_of self.old }
         ensures cause { result ≡ Err FilesFault.Failed → is_planned (parts_of self.old).plans path.now PathFail.Sink ≡ true }
         ensures counts { result ≡ Err FilesFault.Failed → parts_of self.new ≡ after_failure (parts_of self.old) path.now PathFail.Sink }
@@ -209,9 +218,11 @@ impl Files for MemFiles {
         ensures ok { OnOk result (Puts (contents_of self.old) (contents_of self.new) path.now (Some (sink_held dst))) }
         ensures err { OnErr result (Stay (contents_of self.old) (contents_of self.new)) }
         ensures faults { CountsFault (is_failed result) (parts_of self.old).faults (parts_of self.new).faults }
+        ensures kept { KeepsTold (told_of (parts_of self.old)) (told_of (parts_of self.new)) }
+        ensures sure { (told_of (parts_of self.old) path.now).closes ≡ true → is_failed result ≡ false }
 
         ensures unplanned { OnOk result (is_planned (parts_of self.old).plans path.now PathFail.Close ≡ false) }
-        ensures kept { OnOk result (KeepsPlans self.old self.new) }
+        ensures plans { OnOk result (KeepsPlans self.old self.new) }
         ensures memory { result ≡ Err FilesFault.Memory → parts_of self.new ≡ parts_of self.old }
         ensures cause { result ≡ Err FilesFault.Failed → is_planned (parts_of self.old).plans path.now PathFail.Close ≡ true }
         ensures counts { result ≡ Err FilesFault.Failed → parts_of self.new ≡ after_failure (parts_of self.old) path.now PathFail.Close }

@@ -83,15 +83,18 @@ impl MemSink {
 }
 
 impl Sink for MemSink {
-    ghost use Rattle.std.specs.Prelude.{◌<◌, ◌↔◌, Some, IsErr, is_err};
+    ghost use Rattle.std.specs.Prelude.{◌<◌, ◌-◌, ◌↔◌, false, Some, IsErr, is_err};
     ghost use Rattle.std.specs.Io.{WritesAtMost};
     ghost use Rattle.std.specs.Io.KnownBytes.{WriteAppends};
     ghost use Rattle.p9_outside.specs.Causes.{CountsFault};
-    ghost use Rattle.p9_outside.specs.Memory.{sink_held, sink_faults, WriteFails, WritesOn, write_count};
+    ghost use Rattle.p9_outside.specs.Promised.{taken};
+    ghost use Rattle.p9_outside.specs.Memory.{sink_held, sink_faults, sink_firm, WriteFails, WritesOn, write_count};
 
     ghost held = { λ s. Some (sink_held s) };
 
     ghost faults = { λ s. sink_faults s };
+
+    ghost firm = { λ s. sink_firm s };
 
     /// It fails exactly where this write was planned to, or the room is full.
     fn write(&mut self, bytes: &[u8]) -> Result<usize, Failed>
@@ -100,6 +103,8 @@ impl Sink for MemSink {
         ensures some { IfOk result (λ n. 0 < n) }
         ensures bytes { WriteAppends (Some (sink_held self.old)) (Some (sink_held self.new)) result bytes.now }
         ensures faults { CountsFault (is_err result) (sink_faults self.old) (sink_faults self.new) }
+        ensures firm { length bytes.now ≤ sink_firm self.old → is_err result ≡ false }
+        ensures lowered { sink_firm self.new ≡ sink_firm self.old - taken result }
         ensures count { IfOk result (λ n. n ≡ write_count self.old (length bytes.now)) }
         ensures planned { IsErr result ↔ WriteFails self.old }
         ensures on { WritesOn self.old self.new }

@@ -46,11 +46,14 @@ impl Source for MemSource {
     ghost use Rattle.std.specs.Io.{ReadsAtMost};
     ghost use Rattle.std.specs.Io.KnownBytes.{ReadConsumes};
     ghost use Rattle.p9_outside.specs.Causes.{CountsFault};
-    ghost use Rattle.p9_outside.specs.Memory.{source_left, source_fails, source_calls, source_faults, counted, ReadsOn, read_count};
+    ghost use Rattle.p9_outside.specs.Promised.{StaysSteady};
+    ghost use Rattle.p9_outside.specs.Memory.{source_left, source_fails, source_calls, source_faults, source_steady, counted, ReadsOn, read_count};
 
     ghost left = { λ s. Some (source_left s) };
 
     ghost faults = { λ s. source_faults s };
+
+    ghost steady = { λ s. source_steady s };
 
     /// It fails exactly where this read was planned to.
     #[tactic(auto, using(crate::proofs::Fronts::front_and_rest))]
@@ -59,6 +62,7 @@ impl Source for MemSource {
         ensures bound { ReadsAtMost result buf.new }
         ensures bytes { ReadConsumes (Some (source_left self.old)) (Some (source_left self.new)) result buf.new }
         ensures faults { CountsFault (is_err result) (source_faults self.old) (source_faults self.new) }
+        ensures steady { StaysSteady (is_err result) (source_steady self.old) (source_steady self.new) }
         ensures count { IfOk result (λ n. n ≡ read_count self.old (length buf.old)) }
         ensures planned { IsErr result ↔ Contains (source_fails self.old) (counted (source_calls self.old)) }
         ensures on { ReadsOn self.old self.new }

@@ -113,13 +113,16 @@ fn let_go_cut(file: File, length: u64, in_place: &mut InPlace) -> io::Result<()>
 }
 
 impl<'a, R: Files<File = File>, W: Write + Drop> Sink for FileSink<'a, R, W> {
-    ghost use Rattle.std.specs.Prelude.{is_err};
+    ghost use Rattle.std.specs.Prelude.{◌≤◌, ◌-◌, false, is_err};
     ghost use Rattle.p9_outside.specs.Adapters.{file_faults, file_taken, file_writer};
     ghost use Rattle.p9_outside.specs.Causes.{CountsFault};
+    ghost use Rattle.p9_outside.specs.Promised.{taken};
 
     ghost held = { λ s. W.contents (file_writer s) };
 
     ghost faults = { λ s. file_faults s };
+
+    ghost firm = { λ s. 0 };
 
     /// [`FileSink::taken`] rises by just the bytes that were taken.
     fn write(&mut self, bytes: &[u8]) -> Result<usize, Failed>
@@ -128,6 +131,8 @@ impl<'a, R: Files<File = File>, W: Write + Drop> Sink for FileSink<'a, R, W> {
         ensures some { IfOk result (λ n. 0 < n) }
         ensures bytes { WriteAppends (W.contents (file_writer self.old)) (W.contents (file_writer self.new)) result bytes.now }
         ensures faults { CountsFault (is_err result) (file_faults self.old) (file_faults self.new) }
+        ensures firm { length bytes.now ≤ 0 → is_err result ≡ false }
+        ensures lowered { 0 ≡ 0 - taken result }
 
         ensures taken { IfOk result (λ n. file_taken self.new ≡ raised (file_taken self.old) n) }
         ensures untaken { OnErr result (file_taken self.new ≡ file_taken self.old) }

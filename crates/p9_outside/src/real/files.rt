@@ -1,8 +1,9 @@
-ghost use Rattle.std.specs.Prelude.{◌≡◌, ◌<◌, None, IsErr, IfOk, OnOk, OnErr, not};
+ghost use Rattle.std.specs.Prelude.{◌≡◌, ◌<◌, true, false, None, IsErr, IfOk, OnOk, OnErr, not};
 ghost use Rattle.p9_outside.specs.Adapters.{real_faults, real_replaced, real_in_place, file_faults, file_in_place, file_taken, reader_faults, reader_given};
 ghost use Rattle.p9_outside.specs.Causes.{CountsFault, is_failed};
 ghost use Rattle.p9_outside.specs.Contents.{Stay, Opens, IsFresh, Puts};
 ghost use Rattle.p9_outside.specs.Counts.{raised_if};
+ghost use Rattle.p9_outside.specs.Promised.{KeepsTold, nothing_told};
 
 use crate::real::closings::Closings;
 use crate::real::in_place::InPlace;
@@ -92,11 +93,16 @@ impl<'a, R: rt::Files<File = File> + Sync> Files for RealFiles<'a, R> {
 
     ghost faults = { λ f. real_faults f };
 
+    ghost told = { λ f p. nothing_told };
+
     fn source(&mut self, _alloc: Global, path: &[u8]) -> Result<StdSource<File>, FilesFault>
-        // No contents are told, so that the first two of the trait's clauses say nothing.
+        // Nothing is told but the count, so that no other of the trait's clauses says anything.
         ensures contents { Stay None None }
         ensures opens { IfOk result (λ s. Opens None path.now None) }
         ensures faults { CountsFault (is_failed result) (real_faults self.old) (real_faults self.new) }
+        ensures kept { KeepsTold (λ p. nothing_told) (λ p. nothing_told) }
+        ensures sure { false ≡ true → is_failed result ≡ false }
+        ensures steady { IfOk result (λ s. nothing_told.steady ≡ nothing_told.steady) }
 
         ensures given { IfOk result (λ s. reader_given s ≡ 0) }
         ensures whole { IfOk result (λ s. reader_faults s ≡ 0) }
@@ -108,10 +114,13 @@ impl<'a, R: rt::Files<File = File> + Sync> Files for RealFiles<'a, R> {
     }
 
     fn sink(&mut self, alloc: Global, path: &[u8]) -> Result<FileSink<'a, R, File>, FilesFault>
-        // No contents are told, so that the first two of the trait's clauses say nothing.
+        // Nothing is told but the count, so that no other of the trait's clauses says anything.
         ensures contents { Stay None None }
         ensures fresh { IfOk result (λ s. IsFresh None None) }
         ensures faults { CountsFault (is_failed result) (real_faults self.old) (real_faults self.new) }
+        ensures kept { KeepsTold (λ p. nothing_told) (λ p. nothing_told) }
+        ensures sure { false ≡ true → is_failed result ≡ false }
+        ensures firm { IfOk result (λ s. nothing_told.firm ≡ nothing_told.firm) }
 
         ensures taken { IfOk result (λ s. file_taken s ≡ 0) }
         ensures whole { IfOk result (λ s. file_faults s ≡ 0) }
@@ -127,10 +136,12 @@ impl<'a, R: rt::Files<File = File> + Sync> Files for RealFiles<'a, R> {
     /// [`RealFiles::replaced`]. The other one stays, and at an error both do. A sink that met a failure is
     /// never closed well.
     fn close(&mut self, _path: &[u8], dst: FileSink<'a, R, File>) -> Result<(), FilesFault>
-        // No contents are told, so that the first two of the trait's clauses say nothing.
+        // Nothing is told but the count, so that no other of the trait's clauses says anything.
         ensures ok { OnOk result (Puts None None _path.now None) }
         ensures err { OnErr result (Stay None None) }
         ensures faults { CountsFault (is_failed result) (real_faults self.old) (real_faults self.new) }
+        ensures kept { KeepsTold (λ p. nothing_told) (λ p. nothing_told) }
+        ensures sure { false ≡ true → is_failed result ≡ false }
 
         ensures whole { 0 < file_faults dst.entry → IsErr result }
         ensures replaced { OnOk result (real_replaced self.new ≡ raised_if (not (file_in_place dst.entry)) (real_replaced self.old)) }

@@ -84,13 +84,16 @@ fn write_on<W: Write>(inner: &mut W, bytes: &[u8]) -> Result<usize, Failed>
 
 impl<W: Write> Sink for StdSink<W> {
     ghost use Rattle.p9_outside.specs.Adapters.{writer_of, writer_faults, writer_taken};
-    ghost use Rattle.std.specs.Prelude.{is_err};
+    ghost use Rattle.std.specs.Prelude.{◌≤◌, ◌-◌, false, is_err};
     ghost use Rattle.p9_outside.specs.Causes.{CountsFault};
     ghost use Rattle.p9_outside.specs.Counts.{raised};
+    ghost use Rattle.p9_outside.specs.Promised.{taken};
 
     ghost held = { λ s. W.contents (writer_of s) };
 
     ghost faults = { λ s. writer_faults s };
+
+    ghost firm = { λ s. 0 };
 
     /// A write that takes nothing has failed. One that was interrupted is tried again. [`StdSink::taken`] rises by just the bytes that were taken.
     fn write(&mut self, bytes: &[u8]) -> Result<usize, Failed>
@@ -99,6 +102,8 @@ impl<W: Write> Sink for StdSink<W> {
         ensures some { IfOk result (λ n. 0 < n) }
         ensures bytes { WriteAppends (W.contents (writer_of self.old)) (W.contents (writer_of self.new)) result bytes.now }
         ensures faults { CountsFault (is_err result) (writer_faults self.old) (writer_faults self.new) }
+        ensures firm { length bytes.now ≤ 0 → is_err result ≡ false }
+        ensures lowered { 0 ≡ 0 - taken result }
 
         ensures taken { IfOk result (λ n. writer_taken self.new ≡ raised (writer_taken self.old) n) }
         ensures untaken { OnErr result (writer_taken self.new ≡ writer_taken self.old) }

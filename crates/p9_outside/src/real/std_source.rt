@@ -55,14 +55,17 @@ fn read_on<R: Read>(inner: &mut R, buf: &mut [u8]) -> Result<usize, Failed>
 }
 
 impl<R: Read> Source for StdSource<R> {
-    ghost use Rattle.std.specs.Prelude.{◌<◌, length, is_err};
+    ghost use Rattle.std.specs.Prelude.{◌<◌, false, length, is_err};
     ghost use Rattle.p9_outside.specs.Adapters.{reader_of, reader_faults, reader_given};
     ghost use Rattle.p9_outside.specs.Causes.{CountsFault};
     ghost use Rattle.p9_outside.specs.Counts.{raised};
+    ghost use Rattle.p9_outside.specs.Promised.{StaysSteady};
 
     ghost left = { λ s. R.remaining (reader_of s) };
 
     ghost faults = { λ s. reader_faults s };
+
+    ghost steady = { λ s. false };
 
     /// A read that was interrupted is tried again. [`StdSource::given`] rises by just the bytes that were
     /// given.
@@ -71,6 +74,7 @@ impl<R: Read> Source for StdSource<R> {
         ensures bound { ReadsAtMost result buf.new }
         ensures bytes { ReadConsumes (R.remaining (reader_of self.old)) (R.remaining (reader_of self.new)) result buf.new }
         ensures faults { CountsFault (is_err result) (reader_faults self.old) (reader_faults self.new) }
+        ensures steady { StaysSteady (is_err result) false false }
 
         ensures given { IfOk result (λ n. reader_given self.new ≡ raised (reader_given self.old) n) }
         ensures ungiven { OnErr result (reader_given self.new ≡ reader_given self.old) }

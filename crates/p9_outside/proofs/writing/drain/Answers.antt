@@ -7,5 +7,6 @@ loop-done-preserved g c =
     record {
       most = search rules;
       bytes = rw take_next (appends_more _ _ _ _ _ c.loop-done.invariant.bytes c.in-Ok.ensures.bytes);
+      lowered = search rules;
       none_failed = search rules;
     }

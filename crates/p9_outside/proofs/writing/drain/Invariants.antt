@@ -6,6 +6,7 @@ abbrev pub invariant-loop-done : goal.invariant-loop-done
 invariant-loop-done g l = record {
   most : l.done ≤ length l.bytes;
   bytes : Appends (g.K.Sink.held l.initial.sink) (g.K.Sink.held l.sink) (take l.done l.bytes);
+  lowered : g.K.Sink.firm l.sink ≡ g.K.Sink.firm l.initial.sink - l.done;
   none_failed : g.K.Sink.faults l.sink ≡ g.K.Sink.faults l.initial.sink;
 }
 
