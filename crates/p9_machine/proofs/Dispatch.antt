@@ -62,7 +62,7 @@ pub locks_stay : (rendezes : List ℕ) (x : Locking) (s n : State) → n.holds �
 locks_stay rendezes x s n e ew h = record { holds = e ∙ h.holds; waits = ew ∙ h.waits; on = h.on }
 
 pub io_stays : (x : Desks) (s n : State) → n.ioprocs ≡ s.ioprocs → IoFor x s → IoFor x n
-io_stays x s n e h = record { ioprocs = e ∙ h.ioprocs }
+io_stays x s n e h = record { ioprocs = e ∙ h.ioprocs; copies = h.copies }
 
 pub notes_stay : (places : ℕ) (x : List ProcNotes) (s n : State) → map noted n.procs ≡ map noted s.procs → NotesFor places x s → NotesFor places x n
 notes_stay places x s n e h = record { procs = e ∙ h.procs; count = h.count }

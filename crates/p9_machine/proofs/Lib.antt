@@ -1,8 +1,10 @@
 pub mod Beginning
 pub mod Dispatch
 pub mod Ending
+pub mod Halting
 pub mod Keeps
 pub mod Laws
+pub mod Memory
 pub mod Noting
 pub mod OutOfAlts
 pub mod Picked

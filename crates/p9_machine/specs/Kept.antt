@@ -23,6 +23,7 @@ shown m =
     record {
       setup = m.board.setup;
       entries = m.trail.entries.items;
+      halted = m.halted;
       reserved = reserved_of m.reserved;
       rooms = m.board.io.rooms;
     }

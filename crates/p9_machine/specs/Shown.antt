@@ -10,15 +10,16 @@ use Rattle.p9_word.specs.declared.trail.Reply.{Reply}
 use Rattle.p9_word.specs.declared.trail.Reply.TheVariants.{Took}
 use Rattle.p9_word.specs.declared.io_call.IoCall.{IoCall}
 use Rattle.p9_manual.specs.State.{State, by_id, changed}
-use Rattle.p9_manual.specs.Step.{step}
+use Rattle.p9_manual.specs.Halt.{step_of}
 use Rattle.p9_manual.specs.History.{state_after, with_entry}
 use Rattle.p9_io.specs.Calls.{begun_call}
 
--- a machine by its setup and its history. reserved is the event that there is memory for; rooms says for each ioproc,
--- from 1 on, whether the buffer of its begun call is still here
+-- a machine by its setup and its history. halted says that it does no more; reserved is the event that there is memory for;
+-- rooms says for each ioproc, from 1 on, whether the buffer of its begun call is still here
 pub record Shown : Type 0 where
   pub setup : Setup
   pub entries : List Entry
+  pub halted : Bool
   pub reserved : Option (Seat × Event)
   pub rooms : List Bool
 
@@ -27,7 +28,7 @@ state_now m = state_after m.setup m.entries
 
 -- the reply to an event
 abbrev pub reply_to : Shown → Seat → Event → Reply
-reply_to m seat event = (step m.setup seat event (state_now m)).reply
+reply_to m seat event = (step_of m.setup m.halted seat event (state_now m)).reply
 
 -- an ioproc tells what its call came to
 abbrev pub is_told : Event → Bool

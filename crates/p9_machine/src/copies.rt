@@ -8,7 +8,10 @@ use p9_word::{Answer, IoAnswer, IoCall, Msg, Reply};
 pub(crate) fn makes_entry(reply: &Reply) -> bool
     ensures { result ≡ makes_entry reply.now }
 {
-    !matches!(reply, Reply::Idle | Reply::Over | Reply::Stray)
+    !matches!(
+        reply,
+        Reply::Idle | Reply::Over | Reply::Halted | Reply::Stray
+    )
 }
 
 /// A copy of a call, with this copy of its message.
@@ -18,9 +21,11 @@ pub(crate) fn copy_call(call: &IoCall, message: Msg) -> IoCall
 {
     match call {
         IoCall::IoOpen => IoCall::IoOpen,
+        IoCall::IoRead(n) => IoCall::IoRead(*n),
         IoCall::IoReadN(n) => IoCall::IoReadN(*n),
         IoCall::IoWrite(_) => IoCall::IoWrite(message),
         IoCall::IoClose => IoCall::IoClose,
+        IoCall::IoOwn(code, _) => IoCall::IoOwn(*code, message),
     }
 }
 
@@ -85,6 +90,7 @@ pub(crate) fn copy_reply(reply: &Reply, message: Msg) -> Reply
         Reply::Idle => Reply::Idle,
         Reply::Over => Reply::Over,
         Reply::Stuck => Reply::Stuck,
+        Reply::Halted => Reply::Halted,
         Reply::Stray => Reply::Stray,
         Reply::Took(call) => Reply::Took(copy_call(call, message)),
         Reply::Noted => Reply::Noted,

@@ -256,7 +256,8 @@ fn lock_call(board: &mut Board, t: Tid, request: LockReq, spare: p9_lock_calls::
 
 /// A request of a thread on ioprocs.
 fn io_call(board: &mut Board, t: Tid, request: IoReq) -> Reply
-    requires { IsRunning t board.old.sched }
+    requires board { IsBoard board.old }
+    requires runs { IsRunning t board.old.sched }
     ensures gives { GivesAll (io_call board.old.setup t request) board.old result board.new }
     ensures stays { Stays board.old board.new }
     ensures bare { IsBare result }

@@ -13,6 +13,7 @@ mod copies;
 mod ends;
 mod entries;
 mod groups;
+mod halt;
 mod machine;
 mod messages;
 mod next;

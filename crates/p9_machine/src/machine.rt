@@ -1,10 +1,11 @@
-ghost use Rattle.std.specs.Prelude.{◌≡◌, ◌-◌, ◌≤◌, ◌<◌, ◌^◌, [], true, false, Some, None, slice_get, length, replicate, IfOk, OnOk, OnErr, IfSome, IsSome};
+ghost use Rattle.std.specs.Prelude.{◌≡◌, ◌&&◌, ◌-◌, ◌≤◌, ◌<◌, ◌^◌, [], true, false, Some, None, slice_get, length, replicate, IfOk, OnOk, OnErr, IfSome, IsSome};
 ghost use Rattle.p9_word.specs.Setup.{IsValid};
 ghost use Rattle.p9_manual.specs.State.{changed};
 ghost use Rattle.p9_manual.specs.Effects.{room_for, message_length};
 
 use crate::board::{Board, begin_board};
 use crate::entries::{enter, record};
+use crate::halt::stops;
 use crate::reserve::{Reserved, let_go, reserve_for};
 use p9_laws::soundness::states_are_sound;
 use p9_word::{Effect, Event, NoMemory, Reply, Room, Seat, Setup, Trail};
@@ -16,12 +17,13 @@ const AHEAD: usize = 64;
 
 /// The manual's machine: it does one event at a time, and keeps the trail.
 ///
-/// Contracts see its setup, its entries, the event that there is memory for, and which buffers are here.
+/// Contracts see its setup, its entries, whether it was halted, the event that there is memory for, and which buffers are here.
 #[derive(Drop)]
 pub struct Machine {
     alloc: Global,
     board: Board,
     trail: Trail,
+    halted: bool,
     reserved: Option<Reserved>,
 }
 
@@ -38,6 +40,7 @@ impl Model for Machine {
 }
 
 impl Machine {
+    ghost use Rattle.p9_manual.specs.Halt.{stops};
     ghost use Rattle.p9_machine.specs.Shown.{reply_to, after_event, call_begun, is_told, IsReserved};
     ghost use Rattle.p9_manual.specs.History.{IsLegal, state_after};
 
@@ -45,7 +48,13 @@ impl Machine {
     pub fn new(alloc: Global, setup: &Setup) -> Result<Machine, NoMemory>
         requires { IsValid setup.now }
         ensures { IfOk result
-            (λ m. m ≡ record { setup = setup.now; entries = []; reserved = None; rooms = replicate setup.now.files false }) }
+            (λ m. m ≡ record {
+              setup = setup.now;
+              entries = [];
+              halted = false;
+              reserved = None;
+              rooms = replicate setup.now.files false;
+            }) }
     {
         let board = begin_board(alloc, setup)?;
         let trail = Trail {
@@ -57,6 +66,7 @@ impl Machine {
             alloc,
             board,
             trail,
+            halted: false,
             reserved: None,
         })
     }
@@ -92,6 +102,15 @@ impl Machine {
         reserve_for(&mut self.board, seat, event, self.alloc, &mut self.reserved)
     }
 
+    /// Halts the machine, since memory was wanted. It makes no entry, and is for good. From then on the requests of a proc place, its
+    /// `Next`, and the `IoTake` of an ioproc are told `Halted` and do nothing; what came of a call that had begun is recorded as
+    /// before.
+    pub fn halt(&mut self)
+        ensures { self.new ≡ record self.old { halted = true } }
+    {
+        self.halted = true;
+    }
+
     /// One event. There is memory for it, by the reserve before, or for what an ioproc tells since its
     /// call began.
     #[inline(always)]
@@ -102,13 +121,27 @@ impl Machine {
     {
         if matches!(&event, Event::IoDid(_)) {
             self.did(seat, event)
+        } else if self.halted && stops(&self.board.setup, seat, &event) {
+            self.stop()
         } else {
             self.enter(seat, event)
         }
     }
 
+    /// An event that a halted machine doesn't do: the memory that was taken for it is let go.
+    #[cold]
+    #[inline(never)]
+    fn stop(&mut self) -> Reply
+        ensures reply { result ≡ Reply.Halted }
+        ensures machine { self.new ≡ record self.old { reserved = None } }
+    {
+        let_go(&mut self.reserved);
+        Reply::Halted
+    }
+
     #[inline(always)]
     fn enter(&mut self, seat: Seat, event: Event) -> Reply
+        requires running { self.old.halted && stops self.old.setup seat event ≡ false }
         requires reserved { self.old.reserved ≡ Some (seat, event) }
         requires quiet { is_told event ≡ false }
         ensures reply { result ≡ reply_to self.old seat event }
@@ -171,6 +204,7 @@ impl Machine {
             alloc: _,
             board: _,
             trail,
+            halted: _,
             reserved: _,
         } = self;
         trail

@@ -16,8 +16,8 @@ fn message_of_call(call: &IoCall) -> Result<Msg, NoMemory>
     ensures { IfOk result (λ m. IsOfCall call.now m) }
 {
     match call {
-        IoCall::IoWrite(bytes) => bytes.copy(),
-        _ => Ok(Msg::new()),
+        IoCall::IoWrite(bytes) | IoCall::IoOwn(_, bytes) => bytes.copy(),
+        IoCall::IoOpen | IoCall::IoRead(_) | IoCall::IoReadN(_) | IoCall::IoClose => Ok(Msg::new()),
     }
 }
 

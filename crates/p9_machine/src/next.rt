@@ -36,7 +36,7 @@ fn is_stuck(board: &Board) -> bool
 }
 
 /// Whether p is one of the proc places.
-fn is_place(setup: &Setup, p: u32) -> bool
+pub(crate) fn is_place(setup: &Setup, p: u32) -> bool
     ensures { result ≡ is_place setup.now p }
 {
     1 <= p && p <= setup.places
