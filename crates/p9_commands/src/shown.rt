@@ -24,9 +24,11 @@ impl fmt::Display for Call<'_> {
     fn fmt<W: fmt::Write>(&self, f: &mut fmt::Formatter<W>) -> fmt::Result {
         match self.0 {
             IoCall::IoOpen => write!(f, "open"),
+            IoCall::IoRead(n) => write!(f, "read once {n}"),
             IoCall::IoReadN(n) => write!(f, "read {n}"),
             IoCall::IoWrite(bytes) => write!(f, "write {}", Bytes(bytes)),
             IoCall::IoClose => write!(f, "close"),
+            IoCall::IoOwn(code, bytes) => write!(f, "own {code} {}", Bytes(bytes)),
         }
     }
 }
@@ -40,6 +42,7 @@ impl fmt::Display for Asked<'_> {
         match self.0 {
             Request::Io(IoReq::IoProc { k }) => write!(f, "ioproc {k}"),
             Request::Io(IoReq::IoRun { k, call }) => write!(f, "iorun {k} {}", Call(call)),
+            Request::Io(IoReq::IoInterrupt { k }) => write!(f, "iointerrupt {k}"),
             Request::Io(IoReq::CloseIoProc { k }) => write!(f, "closeioproc {k}"),
             Request::Chan(
                 ChanReq::Send {

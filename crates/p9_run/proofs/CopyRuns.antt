@@ -176,7 +176,7 @@ not_none : (write : Bool) → out_line write (Some Close) ≢ None
 not_none true = λ e. cc
 not_none false = λ e. cc
 
-module _ (untold : UntoldAreFull) (told a b c : Told) (from to : List ℕ) (left left' held held' : Option (List ℕ)) (reads reads' writes writes' : ℕ) (history : List Entry) (first : Stay told a) (second : Stay a b) (opens : Opens told from left) (fresh : IsFresh a held) (moves : Moves history left left' held held' reads reads' writes writes') where
+module _ (untold : UntoldAreFull) (told a b c : Told) (from to : List ℕ) (left left' held held' : Option (List ℕ)) (reads reads' writes writes' : ℕ) (steady steady' : Bool) (firm firm' : ℕ) (history : List Entry) (first : Stay told a) (second : Stay a b) (opens : Opens told from left) (fresh : IsFresh a held) (moves : Moves history left left' held held' reads reads' writes writes' steady steady' firm firm') where
   stay_ab : Stay told b
   stay_ab = stay_on told a b first second
 

@@ -12,5 +12,6 @@ pub mod Devices
 pub mod Runs
 pub mod CopyRuns
 pub mod EngineSteps
+pub mod Running
 mod StageExamples
 mod ReportExamples

@@ -18,9 +18,10 @@ use Rattle.p9_outside.specs.Reading.{reader_at, FullReads}
 use Rattle.p9_outside.specs.Writing.{writer_at}
 use Rattle.p9_outside.specs.FileServices.{FileServes}
 use Rattle.p9_outside.specs.FileRuns.{FilesRun}
+use Rattle.p9_outside.specs.Promised.{SourceTells, SinkTells}
 use Rattle.p9_run.specs.Stands.{Between}
 use Rattle.p9_run.specs.Services.{Serves, AllServe}
-use Rattle.p9_run.specs.Moves.{RunsOnFiles, Moves}
+use Rattle.p9_run.specs.Moves.{RunsOnFiles, Moves, MovesOver}
 use Rattle.p9_run.specs.Directions.{in_of, out_of}
 
 runs_none : (asks : Asks) → RunsPrograms asks []
@@ -59,26 +60,29 @@ history_none asks =
       write_done = rw (calls_none, effects_none) refl;
     }
 
-pub moves_none : (none : (bytes : Option (List ℕ)) → Consumes bytes bytes [] × Appends bytes bytes []) (left held : Option (List ℕ)) (faults counts : ℕ) → Moves [] left left held held faults faults counts counts
-moves_none none left held faults counts =
+pub moves_none : (none : (bytes : Option (List ℕ)) → Consumes bytes bytes [] × Appends bytes bytes []) (left held : Option (List ℕ)) (faults counts : ℕ) (steady : Bool) (firm : ℕ) → Moves [] left left held held faults faults counts counts steady steady firm firm
+moves_none none left held faults counts steady firm =
     record {
       given = rw calls_none (none left).0;
       full = rw calls_none tt;
       written = rw calls_none (none held).1;
       read_faults = rw calls_none (omega arith);
       write_faults = rw calls_none (omega arith);
+      steady = λ is. (rw calls_none refl, is);
+      firm = λ within. rw calls_none refl;
+      lowered = rw calls_none (omega arith);
     }
 
-module _ {S K : Type 0} (left : S → Option (List ℕ)) (faults : S → ℕ) (held : K → Option (List ℕ)) (counts : K → ℕ) (law : FilesRun left faults held counts) where
+module _ {S K : Type 0} (from : SourceTells S) (to : SinkTells K) (law : FilesRun from to) where
   -- what the two devices are after a run
   pub record RanFiles (asks : Asks) (history : List Entry) (source : S) (sink : K) (devices : List (FileDevice S K)) : Type 0 where
     pub reader : ReadDevice S
     pub writer : WriteDevice K
     pub devices_are : devices ≡ In reader ∷ Out writer ∷ []
     pub history_is : RunsOnFiles asks history
-    pub moves : Moves history (left source) (left reader.source) (held sink) (held writer.sink) (faults source) (faults reader.source) (counts sink) (counts writer.sink)
+    pub moves : MovesOver from to history source reader.source sink writer.sink
 
-  pub ran_files : (asks : Asks) (history : List Entry) (reader : ReadDevice S) (writer : WriteDevice K) (devices : List (FileDevice S K)) → RunsPrograms asks history → reader_at reader ≡ at_first → writer_at writer ≡ at_first → AllServe (FileServes left faults held counts) history 1 (In reader ∷ Out writer ∷ []) devices → RanFiles asks history reader.source writer.sink devices
+  pub ran_files : (asks : Asks) (history : List Entry) (reader : ReadDevice S) (writer : WriteDevice K) (devices : List (FileDevice S K)) → RunsPrograms asks history → reader_at reader ≡ at_first → writer_at writer ≡ at_first → AllServe (FileServes from to) history 1 (In reader ∷ Out writer ∷ []) devices → RanFiles asks history reader.source writer.sink devices
   ran_files asks history reader writer [] runs a b all = absurd all
   ran_files asks history reader writer (d ∷ []) runs a b all = absurd all.1
   ran_files asks history reader writer (d ∷ e ∷ f ∷ devices) runs a b all = absurd all.1.1
@@ -100,16 +104,19 @@ module _ {S K : Type 0} (left : S → Option (List ℕ)) (faults : S → ℕ) (h
         };
         moves = record {
           given = read.given;
-          full = subst (λ (b : Bool). FullReads b (left reader.source) (services_at 1 history)) (ap (λ (at : At). at.failed) a) read.full;
+          full = subst (λ (b : Bool). FullReads b (from.left reader.source) (services_at 1 history)) (ap (λ (at : At). at.failed) a) read.full;
           written = wrote.written;
           read_faults = read.tells;
           write_faults = wrote.tells;
+          steady = read.steady;
+          firm = wrote.firm;
+          lowered = wrote.lowered;
         };
       }
 
-  pub ended : (asks : Asks) (before history : List Entry) (reader : ReadDevice S) (writer : WriteDevice K) (source : S) (sink : K) (devices devices' : List (FileDevice S K)) → before ≡ [] → RunsPrograms asks history → reader_at reader ≡ at_first → writer_at writer ≡ at_first → reader.source ≡ source → writer.sink ≡ sink → devices ≡ In reader ∷ Out writer ∷ [] → ((firsts : List (FileDevice S K)) → AllServe (FileServes left faults held counts) before 1 firsts devices → AllServe (FileServes left faults held counts) history 1 firsts devices') → RanFiles asks history source sink devices'
+  pub ended : (asks : Asks) (before history : List Entry) (reader : ReadDevice S) (writer : WriteDevice K) (source : S) (sink : K) (devices devices' : List (FileDevice S K)) → before ≡ [] → RunsPrograms asks history → reader_at reader ≡ at_first → writer_at writer ≡ at_first → reader.source ≡ source → writer.sink ≡ sink → devices ≡ In reader ∷ Out writer ∷ [] → ((firsts : List (FileDevice S K)) → AllServe (FileServes from to) before 1 firsts devices → AllServe (FileServes from to) history 1 firsts devices') → RanFiles asks history source sink devices'
   ended asks before history reader writer source sink devices devices' none runs a b is_source is_sink are served =
-      let start : AllServe (FileServes left faults held counts) before 1 (In reader ∷ Out writer ∷ []) devices = rw (none, are) (all_serve_none (FileServes left faults held counts) 1 (In reader ∷ Out writer ∷ [])) in
+      let start : AllServe (FileServes from to) before 1 (In reader ∷ Out writer ∷ []) devices = rw (none, are) (all_serve_none (FileServes from to) 1 (In reader ∷ Out writer ∷ [])) in
       rw⁻¹ (is_source, is_sink) (ran_files asks history reader writer devices' runs a b (served (In reader ∷ Out writer ∷ []) start))
 
   pub writer_is : (asks : Asks) (history : List Entry) (source : S) (sink : K) (xs ys : List (FileDevice S K)) (n : ℕ) (o : Option (FileDevice S K)) (ran : RanFiles asks history source sink xs) → n ≡ 2 → ((d : FileDevice S K) → 0 < n → o ≡ Some (get_or (take n (xs ++ ys)) (n - 1) d)) → out_of o ≡ Some ran.writer
@@ -123,7 +130,7 @@ module _ {S K : Type 0} (left : S → Option (List ℕ)) (faults : S → ℕ) (h
       let v : o ≡ Some (In ran.reader) = rw (one, r) at (value (In ran.reader) (omega (arith, one))) in
       rw v refl
 
-  pub moves_at : (asks : Asks) (history : List Entry) (source : S) (sink : K) (xs : List (FileDevice S K)) (ran : RanFiles asks history source sink xs) (reader : ReadDevice S) (writer : WriteDevice K) → Some reader ≡ Some ran.reader → Some writer ≡ Some ran.writer → Moves history (left source) (left reader.source) (held sink) (held writer.sink) (faults source) (faults reader.source) (counts sink) (counts writer.sink)
+  pub moves_at : (asks : Asks) (history : List Entry) (source : S) (sink : K) (xs : List (FileDevice S K)) (ran : RanFiles asks history source sink xs) (reader : ReadDevice S) (writer : WriteDevice K) → Some reader ≡ Some ran.reader → Some writer ≡ Some ran.writer → MovesOver from to history source reader.source sink writer.sink
   moves_at asks history source sink xs ran reader writer r w =
       let r' : reader ≡ ran.reader = cc in
       let w' : writer ≡ ran.writer = cc in

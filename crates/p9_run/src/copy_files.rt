@@ -1,4 +1,5 @@
 ghost use Rattle.std.specs.Prelude.{◌≡◌, [], IfOk, OnOk};
+ghost use Rattle.p9_outside.specs.Promised.{source_tells, sink_tells};
 ghost use Rattle.p9_word.specs.Setup.{IsValid};
 ghost use Rattle.p9_run.specs.CopyEnd.{IsCopyTrail};
 ghost use Rattle.p9_run.specs.CopyFinish.{unopened, run_end, FinishesRun, CopyLeaves};
@@ -11,6 +12,7 @@ ghost use Rattle.p9_laws.specs.Ending.{HasEnded, is_stuck_reply, ends_stuck};
 
 use crate::copy_programs::CopyPrograms;
 use crate::copy_setup::copy_setup;
+use crate::machine_engine::RunningMachine;
 use crate::report::{FileFault, RunEnd};
 use crate::run_files::{Ran, run_files};
 use p9_laws::ending::runs_end;
@@ -125,13 +127,13 @@ fn run_end(entries: &[Entry], closed: Result<(), FilesFault>) -> Result<RunEnd, 
 }
 
 /// A machine that has done nothing yet, for the setup of a copy.
-fn new_machine(alloc: Global) -> Result<Machine, NoMemory>
-    ensures setup { IfOk result (λ m. m.setup ≡ copy_setup) }
-    ensures valid { IfOk result (λ m. IsValid m.setup) }
-    ensures new { IfOk result (λ m. m.entries ≡ []) }
+fn new_machine(alloc: Global) -> Result<RunningMachine, NoMemory>
+    ensures setup { IfOk result (λ m. m.machine.setup ≡ copy_setup) }
+    ensures valid { IfOk result (λ m. IsValid m.machine.setup) }
+    ensures new { IfOk result (λ m. m.machine.entries ≡ []) }
 {
     let setup = copy_setup(alloc)?;
-    Machine::new(alloc, &setup)
+    Ok(RunningMachine::new(Machine::new(alloc, &setup)?))
 }
 
 /// The run of a copy's two threads over its two files.
@@ -150,7 +152,8 @@ fn run_copy<R: Wait, S: Source + Drop, K: Sink + Drop>(
 ) -> Result<CopyRun<S, K>, NoMemory>
     ensures trail { IfOk result (λ r. IsCopyTrail r.trail) }
     ensures ended { IfOk result (λ r. OnOk r.ran.outcome (HasEnded copy_setup r.trail.entries.items)) }
-    ensures moves { IfOk result (λ r. MovesOver S.left S.faults K.held K.faults r.trail.entries.items source r.ran.source sink r.ran.sink) }
+    ensures moves { IfOk result (λ r. MovesOver (source_tells S.left S.faults S.steady) (sink_tells K.held K.faults K.firm)
+        r.trail.entries.items source r.ran.source sink r.ran.sink) }
 {
     let mut machine = new_machine(alloc)?;
     let programs = CopyPrograms::new(alloc);

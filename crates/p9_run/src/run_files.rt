@@ -1,6 +1,7 @@
 ghost use Rattle.std.specs.Prelude.{◌≡◌, [], OnOk};
 ghost use Rattle.p9_run.specs.Directions.{in_of, out_of};
 ghost use Rattle.p9_run.specs.Moves.{RunsOnFiles, MovesOver};
+ghost use Rattle.p9_outside.specs.Promised.{source_tells, sink_tells};
 ghost use Rattle.p9_word.specs.Setup.{IsValid};
 ghost use Rattle.p9_laws.specs.RunReplies.{reply_at};
 ghost use Rattle.p9_run.specs.Over.{AllOver};
@@ -62,7 +63,8 @@ pub(crate) fn run_files<R: Wait, E: Engine, P: Programs, S: Source + Drop, K: Si
     ensures setup { E.setup engine.new ≡ E.setup engine.old }
     ensures all_over { OnOk result.outcome (AllOver procs (reply_at (E.setup engine.new) (E.entries engine.new))) }
     ensures history { RunsOnFiles (P.asks programs.now) (E.entries engine.new) }
-    ensures moves { MovesOver S.left S.faults K.held K.faults (E.entries engine.new) source result.source sink result.sink }
+    ensures moves { MovesOver (source_tells S.left S.faults S.steady) (sink_tells K.held K.faults K.firm)
+        (E.entries engine.new) source result.source sink result.sink }
 {
     files_run::<S, K>();
     no_bytes_move_nothing();

@@ -20,7 +20,7 @@ returns-in-Ok-run_copy-clause-end g c =
     let held = g.F.Dst.Sink.held in
     let ran = c.in-Ok-run_copy.run'.ran in
     rw c.finish.ensures.trail
-    (finished c.untold_reads_are_full.ensures (told c.args.files.now) (told c.source.new.self) (told c.sink.new.self) (told c.finish.new.files) c.args.from.now c.args.to.now (left c.in-Ok.source) (left ran.source) (held c.in-Ok-sink.sink) (held ran.sink) (g.F.Src.Source.faults c.in-Ok.source) (g.F.Src.Source.faults ran.source) (g.F.Dst.Sink.faults c.in-Ok-sink.sink) (g.F.Dst.Sink.faults ran.sink) c.in-Ok-run_copy.run'.trail.entries.items c.source.ensures.contents c.sink.ensures.contents c.in-Ok.ensures.opens c.in-Ok-sink.ensures.fresh c.in-Ok-run_copy.ensures.moves ran.outcome c.finish.result.end (g.F.Files.faults c.sink.new.self) (g.F.Files.faults c.finish.new.files) c.in-Ok-run_copy.ensures.ended c.finish.ensures.end)
+    (finished c.untold_reads_are_full.ensures (told c.args.files.now) (told c.source.new.self) (told c.sink.new.self) (told c.finish.new.files) c.args.from.now c.args.to.now (left c.in-Ok.source) (left ran.source) (held c.in-Ok-sink.sink) (held ran.sink) (g.F.Src.Source.faults c.in-Ok.source) (g.F.Src.Source.faults ran.source) (g.F.Dst.Sink.faults c.in-Ok-sink.sink) (g.F.Dst.Sink.faults ran.sink) (g.F.Src.Source.steady c.in-Ok.source) (g.F.Src.Source.steady ran.source) (g.F.Dst.Sink.firm c.in-Ok-sink.sink) (g.F.Dst.Sink.firm ran.sink) c.in-Ok-run_copy.run'.trail.entries.items c.source.ensures.contents c.sink.ensures.contents c.in-Ok.ensures.opens c.in-Ok-sink.ensures.fresh c.in-Ok-run_copy.ensures.moves ran.outcome c.finish.result.end (g.F.Files.faults c.sink.new.self) (g.F.Files.faults c.finish.new.files) c.in-Ok-run_copy.ensures.ended c.finish.ensures.end)
 
 pub returns-in-Err-run_copy-clause-end : goal.returns-in-Err-run_copy-clause-end
 returns-in-Err-run_copy-clause-end g c =

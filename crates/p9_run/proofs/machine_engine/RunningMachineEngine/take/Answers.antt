@@ -1,7 +1,7 @@
 use Rattle.std.proofs.Common.{ap, ◌∙◌, refl}
 use Rattle.p9_machine.specs.Shown.{Shown}
 use Rattle.p9_run.proofs.EngineSteps.{taken_begun, call_is, room_here}
-use Rattle.p9_run.proofs.machine_engine.MachineEngine.take.Goals as goal
+use Rattle.p9_run.proofs.machine_engine.RunningMachineEngine.take.Goals as goal
 
 pub room-room-requires-clause-begun : goal.room-room-requires-clause-begun
 room-room-requires-clause-begun c =

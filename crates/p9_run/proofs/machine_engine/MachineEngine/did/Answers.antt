@@ -1,8 +1,0 @@
-use Rattle.std.proofs.Common.{ap}
-use Rattle.p9_machine.specs.Shown.{Shown}
-use Rattle.p9_run.proofs.EngineSteps.{effect_noted}
-use Rattle.p9_run.proofs.machine_engine.MachineEngine.did.Goals as goal
-
-pub returns-clause-entries : goal.returns-clause-entries
-returns-clause-entries c =
-    effect_noted _ _ _ _ _ _ (c.fitting_effects_are_noted.ensures _ _) c.requires c.apply.ensures.reply (ap (λ (m : Shown). m.entries) c.apply.ensures.machine)
