@@ -16,18 +16,24 @@ pub(crate) fn io_request(
             let call = call(alloc, words)?;
             Ok(Some(IoReq::IoRun { k, call }))
         }
+        "iointerrupt" => Ok(Some(IoReq::IoInterrupt { k: words.id()? })),
         "closeioproc" => Ok(Some(IoReq::CloseIoProc { k: words.id()? })),
         _ => Ok(None),
     }
 }
 
-/// A call on a file: `open`, `read` with a number, `write` with a text, or `close`.
+/// A call on a file: `open`, `read` or `readn` with a number, `write` with a text, `close`, or `own` with a number and a text.
 fn call(alloc: Global, words: &mut Words) -> Result<IoCall, Fault> {
     match words.word()? {
         "open" => Ok(IoCall::IoOpen),
-        "read" => Ok(IoCall::IoReadN(words.id()?)),
+        "read" => Ok(IoCall::IoRead(words.id()?)),
+        "readn" => Ok(IoCall::IoReadN(words.id()?)),
         "write" => Ok(IoCall::IoWrite(words.text(alloc)?)),
         "close" => Ok(IoCall::IoClose),
+        "own" => {
+            let code = words.id()?;
+            Ok(IoCall::IoOwn(code, words.text(alloc)?))
+        }
         _ => Err(Fault::NotUnderstood),
     }
 }

@@ -19,14 +19,20 @@ pub(crate) enum Line {
     },
     /// The number of entries of the trail.
     Entries,
+    /// That the machine is halted.
+    Halt,
 }
 
-/// What a line asks for: `entries`, or an event of proc 1 or of the proc or ioproc that is named first.
+/// What a line asks for: `entries`, `halt`, or an event of proc 1 or of the proc or ioproc that is named first.
 pub(crate) fn read_line(alloc: Global, text: &str) -> Result<Line, Fault> {
     let mut words = Words::new(text);
     if words.takes("entries") {
         words.ends()?;
         return Ok(Line::Entries);
+    }
+    if words.takes("halt") {
+        words.ends()?;
+        return Ok(Line::Halt);
     }
     let times = words.id_after("times", 1)?;
     if times == 0 {

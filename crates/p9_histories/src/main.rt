@@ -2,7 +2,8 @@
 //! what it comes to.
 //!
 //! A history begins with a line `history NAME` and the setup that it starts from. Each line below it is an event
-//! of a proc or of an ioproc, or `entries`, which asks how many entries the trail has:
+//! of a proc or of an ioproc, `entries`, which asks how many entries the trail has, or `halt`, by which the machine is
+//! halted:
 //!
 //! ```text
 //! history hands_a_value_over threads 2 chan 0 4

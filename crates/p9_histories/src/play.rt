@@ -67,6 +67,10 @@ fn outcome(alloc: Global, machine: &mut Machine, text: &str) -> Result<String, F
             let count = machine.trail().entries.as_slice().len();
             Ok(format!(in alloc; "{count}")?)
         }
+        Line::Halt => {
+            machine.halt();
+            Ok(String::from_str(alloc, "done")?)
+        }
         Line::Happens { times, seat, event } => replies_to(alloc, machine, times, seat, &event),
     }
 }

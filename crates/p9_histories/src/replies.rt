@@ -19,6 +19,7 @@ pub(crate) fn reply_text(alloc: Global, reply: &Reply) -> Result<String, AllocEr
         Reply::Idle => String::from_str(alloc, "idle"),
         Reply::Over => String::from_str(alloc, "over"),
         Reply::Stuck => String::from_str(alloc, "stuck"),
+        Reply::Halted => String::from_str(alloc, "halted"),
         Reply::Stray => String::from_str(alloc, "stray"),
         Reply::Took(call) => after(alloc, "took", call_text(alloc, call)?),
         Reply::Noted => String::from_str(alloc, "noted"),
@@ -80,9 +81,14 @@ fn io_text(alloc: Global, answer: &IoAnswer) -> Result<String, AllocError> {
 fn call_text(alloc: Global, call: &IoCall) -> Result<String, AllocError> {
     match call {
         IoCall::IoOpen => String::from_str(alloc, "open"),
-        IoCall::IoReadN(n) => format!(in alloc; "read {n}"),
+        IoCall::IoRead(n) => format!(in alloc; "read {n}"),
+        IoCall::IoReadN(n) => format!(in alloc; "readn {n}"),
         IoCall::IoWrite(bytes) => after(alloc, "write", quoted(alloc, bytes)?),
         IoCall::IoClose => String::from_str(alloc, "close"),
+        IoCall::IoOwn(code, bytes) => {
+            let bytes = quoted(alloc, bytes)?;
+            format!(in alloc; "own {code} {bytes}")
+        }
     }
 }
 
