@@ -12,13 +12,13 @@ ghost use Rattle.p9_sched.specs.Turns.{place_of};
 ghost use Rattle.p9_sched.specs.declared.turns.Place.TheVariants.{Running};
 ghost use Rattle.p9_ends.specs.Parts.{Ends, EndsAlone, KeepsCalls, living_quiet, quiet_if};
 
-use crate::ending::{All, OfProc, One};
+use crate::ending::All;
 use p9_alt::Alts;
 use p9_io::IoBoard;
 use p9_lock::Locks;
-use p9_manual::Gone;
+use p9_manual::{Gone, One};
 use p9_note::Notes;
-use p9_sched::Sched;
+use p9_sched::{OfProc, Sched};
 use p9_word::Tid;
 
 /// Ends thread t, which runs: so no alt and no lock has it among those that wait. With the last thread of its proc the notes that are

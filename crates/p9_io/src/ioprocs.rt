@@ -10,20 +10,6 @@ use crate::io_state::IoState;
 use p9_manual::{Gone, Ioproc};
 use p9_word::{IoCall, Tid};
 
-/// One thread.
-#[derive(Drop)]
-pub(crate) struct One(pub(crate) Tid);
-
-impl Gone for One {
-    ghost use Rattle.std.specs.Prelude.{◌==◌};
-
-    ghost ends = { λ x t. t == x.0 };
-
-    fn has(&self, t: Tid) -> bool {
-        t == self.0
-    }
-}
-
 /// How it stands, if it is there.
 pub(crate) fn state_of(ioproc: Option<&Ioproc>) -> IoState
     ensures { result ≡ state_of (option_copied ioproc.entry) }

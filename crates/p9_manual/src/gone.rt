@@ -13,3 +13,17 @@ pub trait Gone {
     fn has(&self, t: Tid) -> bool
         ensures { result ≡ ends self.now t };
 }
+
+/// The one thread with this id, as a set of threads that end.
+#[derive(Drop)]
+pub struct One(pub Tid);
+
+impl Gone for One {
+    ghost use Rattle.std.specs.Prelude.{◌==◌};
+
+    ghost ends = { λ x t. t == x.0 };
+
+    fn has(&self, t: Tid) -> bool {
+        t == self.0
+    }
+}

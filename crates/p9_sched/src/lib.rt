@@ -9,11 +9,13 @@ mod entries;
 mod lane;
 mod lanes;
 mod line;
+mod of_proc;
 mod row;
 mod rows;
 mod sched;
 mod table;
 mod turns;
 
+pub use of_proc::OfProc;
 pub use sched::Sched;
 pub use turns::{Place, Ready};

@@ -18,29 +18,10 @@ ghost use Rattle.p9_signal_calls.specs.Serves.{ServesAll, Stands};
 use crate::interrupts::interrupt;
 use p9_alt::Alts;
 use p9_lock::Locks;
-use p9_manual::Gone;
 use p9_note::Notes;
-use p9_sched::{Place, Sched};
+use p9_sched::{OfProc, Place, Sched};
 use p9_word::limits::MOST_NOTE_BYTES;
 use p9_word::{Answer, Msg, Reply, Tid};
-
-/// The threads of a proc.
-#[derive(Clone, Copy)]
-struct OfProc<'a> {
-    sched: &'a Sched,
-    proc_no: u32,
-}
-
-impl<'a> Gone for OfProc<'a> {
-    ghost use Rattle.p9_manual.specs.Places.{is_of};
-    ghost use Rattle.p9_manual.specs.State.{by_id};
-
-    ghost ends = { λ x t. is_of x.proc_no (by_id x.sched.now.threads t) };
-
-    fn has(&self, t: Tid) -> bool {
-        self.sched.is_of(t, self.proc_no)
-    }
-}
 
 /// Whether the bytes are too many for a note, and for the prefix of a handler.
 fn is_no_note(bytes: &Msg) -> bool
