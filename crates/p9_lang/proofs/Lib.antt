@@ -1,0 +1,3 @@
+mod Cuts
+mod Mapped
+pub mod NameLists
