@@ -52,8 +52,12 @@ inside_line d p w ws =
     if is_word (codes "done") w then (done_line d.progs p ws >>= λ x. Ok (record d { progs = x }))
     else (instr_line d p w ws >>= λ x. Ok (record d { progs = record d.progs { current = Some x } }))
 
+-- the draft while a line of its prog is read: the prog is taken out, and comes back with what the line adds
+abbrev pub without_prog : Draft → Draft
+without_prog d = record d { progs = record d.progs { current = None } }
+
 abbrev pub statement_by : Option OpenProg → ℕ → Draft → Word → List Word → Result Draft Why
-statement_by (Some p) line d w ws = inside_line d p w ws
+statement_by (Some p) line d w ws = inside_line (without_prog d) p w ws
 statement_by None line d w ws = outside_line line d w ws
 
 -- a line's words

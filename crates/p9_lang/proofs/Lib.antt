@@ -1,3 +1,4 @@
 mod Cuts
+mod Entries
 mod Mapped
 pub mod NameLists

@@ -1,7 +1,7 @@
-//! The parts of a reader of pipelines: each of them reads what its definition in `p9_grammar` does, or finds the
-//! same fault. No call reads a whole text yet.
+//! Reads the text of a pipeline, with its first fault exactly.
 #![tactic(auto)]
 
+mod alt_rows;
 mod chan_rows;
 mod decls;
 mod draft;
@@ -15,8 +15,11 @@ mod names;
 mod operands;
 mod ports;
 mod progs;
+mod reader;
 mod sorts;
+mod statement;
 mod thread_rows;
 mod threads;
 
 pub use fault::ReadFault;
+pub use reader::read_text;
